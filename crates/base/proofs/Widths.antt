@@ -1,0 +1,35 @@
+-- What every width of field shares: each law is over the width w, and the proofs of the functions cite it.
+-- Assumes nothing.
+use mathlib.Core.Path.{_≡_, refl, sym, _∙_, ap}
+use mathlib.Core.List.{List, [], _∷_, _++_}
+use Prim.Native.Nat.{ℕ, zero, suc, _+_, _-_, _≤_, _<_}
+use native.Mathlib.Omega.{arith}
+use borrow.Author.Tests.{le-leb, lt-leb}
+use lib.Dec.{leb}
+use lib.ListN.{length, getD, take, drop}
+use lib.Seq.{sets}
+use Rattle.base.specs.Bytes.{number, bytes}
+use Rattle.base.specs.Said.{Said, gives, refuses, done, after}
+use Rattle.base.specs.Field.{readField, writeField}
+use Rattle.base.proofs.Bytes.{length-bytes}
+use Rattle.base.proofs.Lists.{span, take-drop-span, stored}
+
+module _ (w place : ℕ) (s : List ℕ) where
+  pub read-short : (left : ℕ) → left ≡ length s - place → left < w → refuses (1 ∷ place ∷ w ∷ left ∷ []) ≡ readField w place s
+  read-short left e h = simp (lt-leb w (length s - place) (omega arith)) (ap (λ (k : ℕ). refuses (1 ∷ place ∷ w ∷ k ∷ [])) e)
+
+  pub read-whole : w ≤ length s - place → gives (number (span s place w)) ≡ readField w place s
+  read-whole h = simp (le-leb w (length s - place) h) (ap (λ (t : List ℕ). gives (number t)) (sym (take-drop-span w place s h)))
+
+  module _ (n : ℕ) where
+    pub write-short : (left : ℕ) → left ≡ length s - place → left < w
+      → (refuses (9 ∷ place ∷ w ∷ left ∷ []) ≡ done (writeField w place n s)) × (s ≡ after s (writeField w place n s))
+    write-short left e h =
+        ( simp (lt-leb w (length s - place) (omega arith)) (ap (λ (k : ℕ). refuses (9 ∷ place ∷ w ∷ k ∷ [])) e)
+        , simp (lt-leb w (length s - place) (omega arith)) )
+
+    pub write-whole : (v : List ℕ) → v ≡ bytes w n → w ≤ length s - place → place ≤ length s
+      → (gives tt ≡ done (writeField w place n s)) × (sets s place v ≡ after s (writeField w place n s))
+    write-whole v e h k =
+        ( simp (le-leb w (length s - place) h)
+        , simp (le-leb w (length s - place) h) (rw e (rw length-bytes at (stored s place (bytes w n) (rw length-bytes h) k))) )

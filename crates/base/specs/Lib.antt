@@ -1,0 +1,4 @@
+pub mod Bytes
+pub mod Error
+pub mod Field
+pub mod Said

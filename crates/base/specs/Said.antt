@@ -1,0 +1,35 @@
+-- An answer of document 01, and how an order of checks is put together, a line a check.
+-- Assumes nothing: these are definitions.
+use Prim.Native.Nat.{ℕ}
+use mathlib.Core.List.{List}
+use mathlib.Core.Bool.{Bool, true, false}
+
+-- what was asked for, or a refusal: its number, then its fields
+pub data Said (A : Type 0) : Type 0 where
+  gives : A → Said A
+  refuses : List ℕ → Said A
+
+-- the one or the other
+abbrev pub either : {A : Type 0} → Bool → A → A → A
+either true a b = a
+either false a b = b
+
+-- one check: where the test holds, what follows; else the refusal
+abbrev pub needs : {A : Type 0} → Bool → List ℕ → Said A → Said A
+needs true why rest = rest
+needs false why rest = refuses why
+
+-- a step that may refuse, and what follows it
+abbrev pub then : {A B : Type 0} → Said A → (A → Said B) → Said B
+then (gives a) f = f a
+then (refuses why) f = refuses why
+
+-- of a call that changes lent bytes: what it answers ..
+abbrev pub done : {A : Type 0} → Said A → Said (Unit {0})
+done (gives a) = gives tt
+done (refuses why) = refuses why
+
+-- .. and what they are later. A refused call changes none (00, rule 1)
+abbrev pub after : {A : Type 0} → A → Said A → A
+after old (gives new) = new
+after old (refuses why) = old

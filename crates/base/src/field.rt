@@ -1,0 +1,111 @@
+// Big-endian fields of 16 and 32 bits, read from and written to a place of a lent slice. Every slice and every place is
+// taken: where the bytes are not there, the answer is the refusal and nothing is touched.
+ghost use mathlib.Core.Path.{_≡_};
+ghost use mathlib.Core.List.{[], _∷_};
+ghost use Prim.Native.Nat.{_-_};
+ghost use Rattle.base.specs.Bytes.{number};
+ghost use Rattle.base.specs.Said.{after, done};
+ghost use Rattle.base.specs.Field.{readField, writeField, said16, said32, saidWrite};
+use crate::error::TpmError;
+
+// What a field read answers, at each width.
+pub enum Read16 {
+    Value(u16),
+    Refused(TpmError),
+}
+
+pub enum Read32 {
+    Value(u32),
+    Refused(TpmError),
+}
+
+// What a field write answers, at either width.
+pub enum Write {
+    Done,
+    Refused(TpmError),
+}
+
+// How many of len bytes stand at a place and behind it.
+pub fn left(len: usize, place: usize) -> usize
+    ensures { λ r. ⌜ r ≡ len - place ⌝ }
+{
+    if place < len { len - place } else { 0 }
+}
+
+// The number that two bytes stand for.
+pub fn be16(a: u8, b: u8) -> u16
+    ensures { λ r. ⌜ r ≡ number (a ∷ b ∷ []) ⌝ }
+{
+    (a as u16) * 256 + (b as u16)
+}
+
+// The number that four bytes stand for.
+pub fn be32(a: u8, b: u8, c: u8, d: u8) -> u32
+    ensures { λ r. ⌜ r ≡ number (a ∷ b ∷ c ∷ d ∷ []) ⌝ }
+{
+    (be16(a, b) as u32) * 65536 + (be16(c, d) as u32)
+}
+
+pub fn read_u16(s: &[u8], place: usize) -> Read16
+    ensures { λ r. ⌜ said16 r ≡ readField 2 place (now (s .entry)) ⌝ }
+{
+    let left = left(s.len(), place);
+    if left < 2 {
+        return Read16::Refused(TpmError::UnexpectedEnd {
+            offset: place,
+            needed: 2,
+            available: left,
+        });
+    }
+    Read16::Value(be16(s[place], s[place + 1]))
+}
+
+pub fn read_u32(s: &[u8], place: usize) -> Read32
+    ensures { λ r. ⌜ said32 r ≡ readField 4 place (now (s .entry)) ⌝ }
+{
+    let left = left(s.len(), place);
+    if left < 4 {
+        return Read32::Refused(TpmError::UnexpectedEnd {
+            offset: place,
+            needed: 4,
+            available: left,
+        });
+    }
+    Read32::Value(be32(s[place], s[place + 1], s[place + 2], s[place + 3]))
+}
+
+pub fn write_u16(s: &mut [u8], place: usize, n: u16) -> Write
+    ensures answer { λ r. ⌜ saidWrite r ≡ done (writeField 2 place n (now (s .entry))) ⌝ }
+    ensures bytes { λ r. ⌜ now (s .exit) ≡ after (now (s .entry)) (writeField 2 place n (now (s .entry))) ⌝ }
+{
+    let left = left(s.len(), place);
+    if left < 2 {
+        return Write::Refused(TpmError::BufferOverflow {
+            offset: place,
+            needed: 2,
+            available: left,
+        });
+    }
+    s[place] = (n / 256) as u8;
+    s[place + 1] = (n % 256) as u8;
+    Write::Done
+}
+
+pub fn write_u32(s: &mut [u8], place: usize, n: u32) -> Write
+    ensures answer { λ r. ⌜ saidWrite r ≡ done (writeField 4 place n (now (s .entry))) ⌝ }
+    ensures bytes { λ r. ⌜ now (s .exit) ≡ after (now (s .entry)) (writeField 4 place n (now (s .entry))) ⌝ }
+{
+    let left = left(s.len(), place);
+    if left < 4 {
+        return Write::Refused(TpmError::BufferOverflow {
+            offset: place,
+            needed: 4,
+            available: left,
+        });
+    }
+    s[place] = (n / 16777216) as u8;
+    s[place + 1] = (n / 65536 % 256) as u8;
+    s[place + 2] = (n / 256 % 256) as u8;
+    s[place + 3] = (n % 256) as u8;
+    Write::Done
+}

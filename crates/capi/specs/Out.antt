@@ -1,0 +1,40 @@
+-- What C is given of an answer: a number, 0 for an answer and else the refusal's, and the numbers that go into the lent array.
+-- Assumes nothing: these are definitions.
+use Prim.Native.Nat.{ℕ}
+use mathlib.Core.Path.{_≡_}
+use mathlib.Core.List.{List, [], _∷_}
+use lib.Seq.{sets}
+use Rattle.base.specs.Said.{Said, gives, refuses}
+
+-- a refusal is its number, then its fields
+abbrev pub first : List ℕ → ℕ
+first [] = 0
+first (number ∷ rest) = number
+
+abbrev pub fields : List ℕ → List ℕ
+fields [] = []
+fields (number ∷ rest) = rest
+
+abbrev pub number : {A : Type 0} → Said A → ℕ
+number (gives a) = 0
+number (refuses why) = first why
+
+-- the numbers to report, where an answer's own are told by `of`
+abbrev pub values : {A : Type 0} → (A → List ℕ) → Said A → List ℕ
+values of (gives a) = of a
+values of (refuses why) = fields why
+
+abbrev pub one : ℕ → List ℕ
+one n = n ∷ []
+
+abbrev pub none : {A : Type 0} → A → List ℕ
+none a = []
+
+-- the array later: what is reported, stored from its first place on, over what was there
+abbrev pub over : List ℕ → List ℕ → List ℕ
+over new old = sets old 0 new
+
+-- a call returns r and leaves the array, which was old, as later: it reports what is said
+pub record Reports {A : Type 0} (of : A → List ℕ) (said : Said A) (old later : List ℕ) (r : ℕ) : Type 0 where
+  pub status : r ≡ number said
+  pub array : later ≡ over (values of said) old

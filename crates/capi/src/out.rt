@@ -1,0 +1,59 @@
+// How an answer goes out: one place for every call.
+ghost use mathlib.Core.Path.{_≡_};
+ghost use mathlib.Core.List.{[], _∷_};
+ghost use Rattle.base.specs.Error.{numbered};
+ghost use Rattle.capi.specs.Out.{over, first, fields};
+use base::error::TpmError;
+
+fn three(number: u32, a: usize, b: usize, c: usize, out: &mut [u64; 8]) -> u32
+    ensures { λ r. ⌜ r ≡ number ⌝ }
+    ensures { λ r. ⌜ now (out .exit) ≡ over (a ∷ b ∷ c ∷ []) (now (out .entry)) ⌝ }
+{
+    out[0] = a as u64;
+    out[1] = b as u64;
+    out[2] = c as u64;
+    number
+}
+
+fn two(number: u32, a: usize, b: u64, out: &mut [u64; 8]) -> u32
+    ensures { λ r. ⌜ r ≡ number ⌝ }
+    ensures { λ r. ⌜ now (out .exit) ≡ over (a ∷ b ∷ []) (now (out .entry)) ⌝ }
+{
+    out[0] = a as u64;
+    out[1] = b;
+    number
+}
+
+// A refusal: its number, and its fields into the array.
+pub fn refuse(e: TpmError, out: &mut [u64; 8]) -> u32
+    ensures { λ r. ⌜ r ≡ first (numbered e) ⌝ }
+    ensures { λ r. ⌜ now (out .exit) ≡ over (fields (numbered e)) (now (out .entry)) ⌝ }
+{
+    match e {
+        TpmError::UnexpectedEnd {
+            offset,
+            needed,
+            available,
+        } => three(1, offset, needed, available, out),
+        TpmError::TrailingData { offset, actual } => two(2, offset, actual as u64, out),
+        TpmError::InvalidTag { offset, value } => two(3, offset, value, out),
+        TpmError::InvalidCc { offset, value } => two(4, offset, value, out),
+        TpmError::InvalidRc { offset, value } => two(5, offset, value, out),
+        TpmError::TooManyItems {
+            offset,
+            limit,
+            actual,
+        } => three(6, offset, limit, actual, out),
+        TpmError::IntegerTooLarge { offset, value } => two(7, offset, value, out),
+        TpmError::TooManyBytes {
+            offset,
+            limit,
+            actual,
+        } => three(8, offset, limit, actual, out),
+        TpmError::BufferOverflow {
+            offset,
+            needed,
+            available,
+        } => three(9, offset, needed, available, out),
+    }
+}
