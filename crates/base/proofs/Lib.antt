@@ -1,4 +1,6 @@
+pub mod Answers
 pub mod Bytes
 pub mod Lists
 pub mod Refusals
+pub mod Single
 pub mod Widths

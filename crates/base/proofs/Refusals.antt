@@ -17,7 +17,7 @@ three k made l other = either (eqb (getD l 0 0) k) (made (getD l 1 0) (getD l 2 
 abbrev two : ℕ → (ℕ → ℕ → TpmError) → List ℕ → TpmError → TpmError
 two k made l other = either (eqb (getD l 0 0) k) (made (getD l 1 0) (getD l 2 0)) other
 
-named : List ℕ → TpmError
+pub named : List ℕ → TpmError
 named l =
     three 1 UnexpectedEnd l
     (two 2 TrailingData l
@@ -29,7 +29,7 @@ named l =
     (three 8 TooManyBytes l
     (BufferOverflow (getD l 1 0) (getD l 2 0) (getD l 3 0)))))))))
 
-named-numbered : (e : TpmError) → named (numbered e) ≡ e
+pub named-numbered : (e : TpmError) → named (numbered e) ≡ e
 unfolding named
 named-numbered (UnexpectedEnd o n a) = refl
 named-numbered (TrailingData o a) = refl
