@@ -119,10 +119,13 @@ impl Tally {
     /// Goes on to a simpler input as long as one still differs.
     fn shrunk<C: Case>(&mut self, case: &C, judge: &Judge<C>) -> C {
         let mut best = case.clone();
-        while let Some(next) = best.simpler().find(|next| self.differs(next, judge)) {
-            best = next;
+        loop {
+            let next = best.simpler().find(|next| self.differs(next, judge));
+            match next {
+                Some(next) => best = next,
+                None => return best,
+            }
         }
-        best
     }
 }
 

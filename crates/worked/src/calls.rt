@@ -1,0 +1,73 @@
+// A line's call, by its name.
+use crate::show;
+use crate::text;
+
+// What is to be written of a call: what it returned, how many numbers an answer of it has, whether it writes bytes.
+pub struct Told {
+    pub number: u32,
+    pub count: usize,
+    pub writes: bool,
+    pub known: bool,
+}
+
+// The line, and its answer behind it.
+pub fn line(s: &[u8]) {
+    io::write_all(1, s);
+    let mut room = [0u8; 4096];
+    let n = text::unhex(text::word(s, 1), &mut room);
+    run(s, &mut room[..n]);
+    io::write_all(1, b"\n");
+}
+
+fn run(s: &[u8], bytes: &mut [u8]) {
+    let place = text::decimal(text::word(s, 2)) as usize;
+    let value = text::decimal(text::word(s, 3));
+    let mut out = [0u64; 8];
+    let told = call(text::word(s, 0), bytes, place, value, &mut out);
+    if told.known {
+        show::answer(told.number, told.count, out);
+    }
+    if told.writes {
+        io::write_all(1, b" ; ");
+        show::bytes(bytes);
+    }
+}
+
+fn call(name: &[u8], bytes: &mut [u8], place: usize, value: u64, out: &mut [u64; 8]) -> Told {
+    if check::same(name, b"read_u16") {
+        return read(1, capi::field::skein_read_u16(bytes, place, out));
+    }
+    if check::same(name, b"read_u32") {
+        return read(1, capi::field::skein_read_u32(bytes, place, out));
+    }
+    if check::same(name, b"write_u16") {
+        return wrote(capi::field::skein_write_u16(bytes, place, (value % 65536) as u16, out));
+    }
+    if check::same(name, b"write_u32") {
+        return wrote(capi::field::skein_write_u32(bytes, place, (value % 4294967296) as u32, out));
+    }
+    Told {
+        number: 0,
+        count: 0,
+        writes: false,
+        known: false,
+    }
+}
+
+fn read(count: usize, number: u32) -> Told {
+    Told {
+        number,
+        count,
+        writes: false,
+        known: true,
+    }
+}
+
+fn wrote(number: u32) -> Told {
+    Told {
+        number,
+        count: 0,
+        writes: true,
+        known: true,
+    }
+}
