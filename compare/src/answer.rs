@@ -6,6 +6,7 @@
 
 use crate::calls::Out;
 use std::fmt;
+use std::ops::Range;
 
 /// Bytes on each side of the lent slice that no call may touch.
 const GUARD: usize = 64;
@@ -43,8 +44,8 @@ impl Answer {
 
     /// Makes a call on what is lent, and keeps the number that it returns.
     pub fn call(&mut self, call: impl FnOnce(&mut [u8], &mut Out) -> u32) {
-        let end = self.room.len() - GUARD;
-        self.number = call(&mut self.room[GUARD..end], &mut self.out);
+        let lent = self.lent();
+        self.number = call(&mut self.room[lent], &mut self.out);
     }
 
     /// A judge's answer, with the numbers that it reports.
@@ -69,18 +70,21 @@ impl Answer {
     }
 
     pub fn bytes(&self) -> &[u8] {
-        &self.room[GUARD..self.room.len() - GUARD]
+        &self.room[self.lent()]
     }
 
     pub fn bytes_mut(&mut self) -> &mut [u8] {
-        let end = self.room.len() - GUARD;
-        &mut self.room[GUARD..end]
+        let lent = self.lent();
+        &mut self.room[lent]
+    }
+
+    fn lent(&self) -> Range<usize> {
+        GUARD..self.room.len() - GUARD
     }
 
     fn guards_hold(&self) -> bool {
-        let (before, rest) = self.room.split_at(GUARD);
-        let behind = &rest[rest.len() - GUARD..];
-        before.iter().chain(behind).all(|&byte| byte == GUARD_BYTE)
+        let Range { start, end } = self.lent();
+        self.room[..start].iter().chain(&self.room[end..]).all(|&byte| byte == GUARD_BYTE)
     }
 }
 

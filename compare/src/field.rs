@@ -16,18 +16,8 @@ struct Call {
 }
 
 static CALLS: [Call; 4] = [
-    Call {
-        name: "skein_read_u16",
-        width: 2,
-        writes: false,
-        ours: |s, place, _, out| calls::read_u16(s, place, out),
-    },
-    Call {
-        name: "skein_read_u32",
-        width: 4,
-        writes: false,
-        ours: |s, place, _, out| calls::read_u32(s, place, out),
-    },
+    Call { name: "skein_read_u16", width: 2, writes: false, ours: |s, place, _, out| calls::read_u16(s, place, out) },
+    Call { name: "skein_read_u32", width: 4, writes: false, ours: |s, place, _, out| calls::read_u32(s, place, out) },
     Call {
         name: "skein_write_u16",
         width: 2,
@@ -173,7 +163,11 @@ fn check_numbers(tally: &mut Tally, call: &'static Call, random: &mut Random) {
         case.place = place;
         for i in 0..=u32::from(u16::MAX) {
             let n = if call.width == 2 { i } else { random_number(call.width, random) };
-            if call.writes { case.n = n } else { put(&mut case.bytes, place, call.width, n) }
+            if call.writes {
+                case.n = n
+            } else {
+                put(&mut case.bytes, place, call.width, n)
+            }
             tally.check(&case);
         }
     }
@@ -194,7 +188,7 @@ pub fn run(random: &mut Random) -> Vec<Tally> {
 pub fn list(random: &mut Random) {
     for call in &CALLS {
         let numbers = boundaries(call.width);
-        for len in (0..=6).chain([16]) {
+        for len in (0..=5).chain([16]) {
             let far = [1 << 32, 1 << 63, usize::MAX - 1, usize::MAX];
             for place in (0..=len + 1).chain(far) {
                 let n = if call.writes { random.pick(&numbers) } else { 0 };

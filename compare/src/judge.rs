@@ -131,7 +131,7 @@ impl Tally {
 
 impl Display for Tally {
     fn fmt(&self, f: &mut std::fmt::Formatter) -> std::fmt::Result {
-        write!(f, "{}: {} calls, {} mismatches; judged", self.name, self.calls, self.mismatches)?;
-        self.spoke.iter().try_for_each(|(judge, times)| write!(f, " {times} times by {judge}"))
+        write!(f, "{}: {} calls, {} mismatches", self.name, self.calls, self.mismatches)?;
+        self.spoke.iter().try_for_each(|(judge, times)| write!(f, ", {times} judged by {judge}"))
     }
 }

@@ -51,7 +51,7 @@ unfolding number bytes
 number-mod zero n = omega arith
 number-mod (suc w) n =
     let step : (n / 256 ^ w) % 256 * 256 ^ length (bytes w n) + number (bytes w n) ≡ n % 256 ^ suc w =
-            rw (length-bytes, number-mod w n, pow-succ') (sym (mod-mul n (omega arith) (pow-pos w))) in
+    rw (length-bytes, number-mod w n, pow-succ') (sym (mod-mul n (omega arith) (pow-pos w))) in
     step
 
 pub number-bytes : (w n : ℕ) → n < 256 ^ w → number (bytes w n) ≡ n
@@ -71,7 +71,7 @@ bytes-above zero q n = refl
 bytes-above (suc w) q n =
     let same : q * 256 ^ suc w + n ≡ (q * 256) * 256 ^ w + n = rw (pow-succ', mul-assoc) in
     let digit : ((q * 256) * 256 ^ w + n) / 256 ^ w % 256 ≡ n / 256 ^ w % 256 =
-            rw (mul-add-div-right (pow-pos w) (q * 256) n) (mul-add-mod-self-right q 256 (n / 256 ^ w)) in
+    rw (mul-add-div-right (pow-pos w) (q * 256) n) (mul-add-mod-self-right q 256 (n / 256 ^ w)) in
     ap (bytes (suc w)) same ∙ (λ i. digit i ∷ bytes-above w (q * 256) n i)
 
 pub bytes-number : (s : List ℕ) → AreBytes s → bytes (length s) (number s) ≡ s

@@ -19,5 +19,5 @@ take-drop-span (suc w) place s h =
 
 -- a run of stores from a place on leaves what is before it, what was stored, and what is behind it
 pub stored : (s : List ℕ) (place : ℕ) (v : List ℕ) → length v ≤ length s - place → place ≤ length s
-  → sets s place v ≡ take place s ++ (v ++ drop (place + length v) s)
+    → sets s place v ≡ take place s ++ (v ++ drop (place + length v) s)
 stored s place v h k = sets-eq v s place (omega arith) ∙ append-assoc (take place s) v (drop (place + length v) s)

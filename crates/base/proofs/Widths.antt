@@ -23,13 +23,15 @@ module _ (w place : ℕ) (s : List ℕ) where
 
   module _ (n : ℕ) where
     pub write-short : (left : ℕ) → left ≡ length s - place → left < w
-      → (refuses (9 ∷ place ∷ w ∷ left ∷ []) ≡ done (writeField w place n s)) × (s ≡ after s (writeField w place n s))
-    write-short left e h =
-        ( simp (lt-leb w (length s - place) (omega arith)) (ap (λ (k : ℕ). refuses (9 ∷ place ∷ w ∷ k ∷ [])) e)
-        , simp (lt-leb w (length s - place) (omega arith)) )
+        → (refuses (9 ∷ place ∷ w ∷ left ∷ []) ≡ done (writeField w place n s)) × (s ≡ after s (writeField w place n s))
+    write-short left e h = (
+      simp (lt-leb w (length s - place) (omega arith)) (ap (λ (k : ℕ). refuses (9 ∷ place ∷ w ∷ k ∷ [])) e),
+      simp (lt-leb w (length s - place) (omega arith)),
+    )
 
     pub write-whole : (v : List ℕ) → v ≡ bytes w n → w ≤ length s - place → place ≤ length s
-      → (gives tt ≡ done (writeField w place n s)) × (sets s place v ≡ after s (writeField w place n s))
-    write-whole v e h k =
-        ( simp (le-leb w (length s - place) h)
-        , simp (le-leb w (length s - place) h) (rw e (rw length-bytes at (stored s place (bytes w n) (rw length-bytes h) k))) )
+        → (gives tt ≡ done (writeField w place n s)) × (sets s place v ≡ after s (writeField w place n s))
+    write-whole v e h k = (
+      simp (le-leb w (length s - place) h),
+      simp (le-leb w (length s - place) h) (rw e (rw length-bytes at (stored s place (bytes w n) (rw length-bytes h) k))),
+    )

@@ -3,13 +3,14 @@ ghost use mathlib.Core.Path.{_≡_};
 ghost use Rattle.base.specs.Field.{readField, writeField};
 ghost use Rattle.base.specs.Said.{after};
 ghost use Rattle.capi.specs.Out.{Reports, one, none};
+use crate::out;
+use crate::out::Numbers;
 use base::field::Read16;
 use base::field::Read32;
 use base::field::Write;
-use crate::out;
 
 #[no_mangle]
-pub extern "C" fn skein_read_u16(s: &[u8], place: usize, out: &mut [u64; 8]) -> u32
+pub extern "C" fn skein_read_u16(s: &[u8], place: usize, out: &mut Numbers) -> u32
     ensures { λ r. ⌜ Reports one (readField 2 place (now (s .entry))) (now (out .entry)) (now (out .exit)) r ⌝ }
 {
     let read = base::field::read_u16(s, place);
@@ -23,7 +24,7 @@ pub extern "C" fn skein_read_u16(s: &[u8], place: usize, out: &mut [u64; 8]) -> 
 }
 
 #[no_mangle]
-pub extern "C" fn skein_read_u32(s: &[u8], place: usize, out: &mut [u64; 8]) -> u32
+pub extern "C" fn skein_read_u32(s: &[u8], place: usize, out: &mut Numbers) -> u32
     ensures { λ r. ⌜ Reports one (readField 4 place (now (s .entry))) (now (out .entry)) (now (out .exit)) r ⌝ }
 {
     let read = base::field::read_u32(s, place);
@@ -37,7 +38,7 @@ pub extern "C" fn skein_read_u32(s: &[u8], place: usize, out: &mut [u64; 8]) -> 
 }
 
 #[no_mangle]
-pub extern "C" fn skein_write_u16(s: &mut [u8], place: usize, n: u16, out: &mut [u64; 8]) -> u32
+pub extern "C" fn skein_write_u16(s: &mut [u8], place: usize, n: u16, out: &mut Numbers) -> u32
     ensures { λ r. ⌜ Reports none (writeField 2 place n (now (s .entry))) (now (out .entry)) (now (out .exit)) r ⌝ }
     ensures { λ r. ⌜ now (s .exit) ≡ after (now (s .entry)) (writeField 2 place n (now (s .entry))) ⌝ }
 {
@@ -49,7 +50,7 @@ pub extern "C" fn skein_write_u16(s: &mut [u8], place: usize, n: u16, out: &mut 
 }
 
 #[no_mangle]
-pub extern "C" fn skein_write_u32(s: &mut [u8], place: usize, n: u32, out: &mut [u64; 8]) -> u32
+pub extern "C" fn skein_write_u32(s: &mut [u8], place: usize, n: u32, out: &mut Numbers) -> u32
     ensures { λ r. ⌜ Reports none (writeField 4 place n (now (s .entry))) (now (out .entry)) (now (out .exit)) r ⌝ }
     ensures { λ r. ⌜ now (s .exit) ≡ after (now (s .entry)) (writeField 4 place n (now (s .entry))) ⌝ }
 {

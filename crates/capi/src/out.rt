@@ -5,7 +5,10 @@ ghost use Rattle.base.specs.Error.{numbered};
 ghost use Rattle.capi.specs.Out.{over, first, fields};
 use base::error::TpmError;
 
-fn three(number: u32, a: usize, b: usize, c: usize, out: &mut [u64; 8]) -> u32
+// The lent array that takes an answer's numbers or a refusal's fields.
+pub type Numbers = [u64; 8];
+
+fn three(number: u32, a: usize, b: usize, c: usize, out: &mut Numbers) -> u32
     ensures { λ r. ⌜ r ≡ number ⌝ }
     ensures { λ r. ⌜ now (out .exit) ≡ over (a ∷ b ∷ c ∷ []) (now (out .entry)) ⌝ }
 {
@@ -15,7 +18,7 @@ fn three(number: u32, a: usize, b: usize, c: usize, out: &mut [u64; 8]) -> u32
     number
 }
 
-fn two(number: u32, a: usize, b: u64, out: &mut [u64; 8]) -> u32
+fn two(number: u32, a: usize, b: u64, out: &mut Numbers) -> u32
     ensures { λ r. ⌜ r ≡ number ⌝ }
     ensures { λ r. ⌜ now (out .exit) ≡ over (a ∷ b ∷ []) (now (out .entry)) ⌝ }
 {
@@ -25,7 +28,7 @@ fn two(number: u32, a: usize, b: u64, out: &mut [u64; 8]) -> u32
 }
 
 // A refusal: its number, and its fields into the array.
-pub fn refuse(e: TpmError, out: &mut [u64; 8]) -> u32
+pub(crate) fn refuse(e: TpmError, out: &mut Numbers) -> u32
     ensures { λ r. ⌜ r ≡ first (numbered e) ⌝ }
     ensures { λ r. ⌜ now (out .exit) ≡ over (fields (numbered e)) (now (out .entry)) ⌝ }
 {

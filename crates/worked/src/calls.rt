@@ -3,7 +3,7 @@ use crate::show;
 use crate::text;
 
 // What is to be written of a call: what it returned, how many numbers an answer of it has, whether it writes bytes.
-pub struct Told {
+pub(crate) struct Told {
     pub number: u32,
     pub count: usize,
     pub writes: bool,
@@ -11,7 +11,7 @@ pub struct Told {
 }
 
 // The line, and its answer behind it.
-pub fn line(s: &[u8]) {
+pub(crate) fn line(s: &[u8]) {
     io::write_all(1, s);
     let mut room = [0u8; 4096];
     let n = text::unhex(text::word(s, 1), &mut room);

@@ -1,6 +1,6 @@
 // How an answer is written: numbers in decimal with a space before each, bytes in hex.
 
-pub fn bytes(s: &[u8]) {
+pub(crate) fn bytes(s: &[u8]) {
     if s.len() == 0 {
         io::write_all(1, b"-");
     }
@@ -12,7 +12,7 @@ pub fn bytes(s: &[u8]) {
 }
 
 // What a call returned and reported. An answer has `count` numbers, a refusal its own fields.
-pub fn answer(number: u32, count: usize, out: [u64; 8]) {
+pub(crate) fn answer(number: u32, count: usize, out: [u64; 8]) {
     io::write_all(1, b" = ");
     io::print_decimal(1, number as u64);
     let most = if number == 0 { count } else { fields(number) };

@@ -4,7 +4,7 @@ ghost use lib.ListN.{length};
 ghost use Rattle.io.specs.Counts.{Counts};
 
 // Where the byte `mark` stands next, from a place on, or the end.
-pub fn stop(s: &[u8], place: usize, mark: u8) -> usize
+pub(crate) fn stop(s: &[u8], place: usize, mark: u8) -> usize
     requires { ⌜ place ≤ length (now s) ⌝ }
     ensures { λ r. ⌜ (place ≤ r) × (r ≤ length (now (s .entry))) ⌝ }
 {
@@ -19,7 +19,7 @@ pub fn stop(s: &[u8], place: usize, mark: u8) -> usize
 }
 
 // The word that has k words before it, empty where there are no more than k.
-pub fn word(s: &[u8], k: usize) -> &[u8] {
+pub(crate) fn word(s: &[u8], k: usize) -> &[u8] {
     let from = start(s, k);
     let to = stop(s, from, b' ');
     &s[from..to]
@@ -41,7 +41,7 @@ fn start(s: &[u8], k: usize) -> usize
 }
 
 // The number that decimal digits spell, as far as it fits; other bytes are passed over.
-pub fn decimal(s: &[u8]) -> u64 {
+pub(crate) fn decimal(s: &[u8]) -> u64 {
     let mut n: u64 = 0;
     let mut at = 0;
     while at < s.len() {
@@ -64,7 +64,7 @@ fn with_digit(n: u64, b: u8) -> u64 {
 }
 
 // The bytes that hex digits spell, put at the start of out, and how many there are.
-pub fn unhex(s: &[u8], out: &mut [u8]) -> usize
+pub(crate) fn unhex(s: &[u8], out: &mut [u8]) -> usize
     ensures { λ r. ⌜ Counts r (now (out .exit)) ⌝ }
 {
     let count = least(s.len() / 2, out.len());
