@@ -16,21 +16,16 @@ struct Call {
 }
 
 static CALLS: [Call; 4] = [
-    Call { name: "skein_read_u16", width: 2, writes: false, ours: |s, place, _, out| calls::read_u16(s, place, out) },
-    Call { name: "skein_read_u32", width: 4, writes: false, ours: |s, place, _, out| calls::read_u32(s, place, out) },
+    Call { name: "read_u16", width: 2, writes: false, ours: |s, place, _, out| calls::read_u16(s, place, out) },
+    Call { name: "read_u32", width: 4, writes: false, ours: |s, place, _, out| calls::read_u32(s, place, out) },
     Call {
-        name: "skein_write_u16",
+        name: "write_u16",
         width: 2,
         writes: true,
         // a case of width 2 holds no larger number
         ours: |s, place, n, out| calls::write_u16(s, place, n as u16, out),
     },
-    Call {
-        name: "skein_write_u32",
-        width: 4,
-        writes: true,
-        ours: |s, place, n, out| calls::write_u32(s, place, n, out),
-    },
+    Call { name: "write_u32", width: 4, writes: true, ours: |s, place, n, out| calls::write_u32(s, place, n, out) },
 ];
 
 #[derive(Clone)]
@@ -52,9 +47,9 @@ impl fmt::Display for Field {
 
 impl Case for Field {
     const JUDGES: &'static [Judge<Self>] = &[
-        Judge { name: "be_bytes", says: by_rust },
         #[cfg(oracle)]
         Judge { name: "tpm2-protocol", says: by_crate },
+        Judge { name: "be_bytes", says: by_rust },
     ];
 
     fn bytes(&self) -> &[u8] {
