@@ -23,7 +23,7 @@ need_rustc() {
     if rustc_will_do; then return; fi
     if [ "$(id -u)" = 0 ] && command -v apt-get >/dev/null; then
         RUSTC=/usr/bin/rustc
-        { apt-get update -qq && apt-get install -y -qq --no-install-recommends rustc-web; } >&2 || true
+        { apt-get update -qq; apt-get install -y -qq --no-install-recommends rustc-web; } >&2 || true
     fi
     rustc_will_do || fail "rustc 1.85 or later is missing (Debian has it in the package rustc-web)"
 }
@@ -43,7 +43,8 @@ copy_crates() { # DIR
 # Makes a shadow of the kit in which all is a link to the kit's own, except clang, for which native-clang stands in and
 # finds the kit's tools in the folder kit beside it.
 shadow_kit() { # SHADOW
-    from=$(dirname "$(dirname "$(rt doc)")") to=$1
+    guide=$(rt doc) || return
+    from=$(dirname "$(dirname "$guide")") to=$1
     rm -rf "$to"
     for part in on "$(uname -m)" toolchain bin clang; do
         mkdir -p "$to"
@@ -64,7 +65,7 @@ build_library() { # DIR
     case $(uname -m) in
     x86_64) (cd "$1" && rt staticlib capi) ;;
     aarch64) shadow_kit "$work/kit" && (cd "$1" && RATTLE_HOME=$work/kit rt staticlib capi) ;;
-    *) fail "a library can be made for x86_64 and aarch64, not for $(uname -m)" ;;
+    *) echo "a library can be made for x86_64 and aarch64, not for $(uname -m)" && false ;;
     esac >"$1/build.log" 2>&1
 }
 

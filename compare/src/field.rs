@@ -132,9 +132,19 @@ fn random_number(width: usize, random: &mut Random) -> u32 {
     (random.number() % (1 << (width * 8))) as u32
 }
 
+/// The numbers that a call is given at every place: the limits and some random ones; a read is given none.
+fn numbers(call: &Call, random: &mut Random) -> Vec<u32> {
+    if !call.writes {
+        return vec![0];
+    }
+    let mut numbers = boundaries(call.width);
+    numbers.extend((0..8).map(|_| random_number(call.width, random)));
+    numbers
+}
+
 /// Every short slice, in several fills, at every place in it and behind it.
 fn check_places(tally: &mut Tally, call: &'static Call, random: &mut Random) {
-    let numbers = if call.writes { boundaries(call.width) } else { vec![0] };
+    let numbers = numbers(call, random);
     for len in 0..=16 {
         let fills = [vec![0; len], vec![0xFF; len], (1..=len as u8).collect(), random.bytes(len), random.bytes(len)];
         for bytes in fills {
@@ -182,12 +192,11 @@ pub fn run(random: &mut Random) -> Vec<Tally> {
 /// `NAME BYTES PLACE N = NUMBER VALUES`, and for a write ` ; LATER-BYTES`.
 pub fn list(random: &mut Random) {
     for call in &CALLS {
-        let numbers = boundaries(call.width);
+        let numbers = numbers(call, random);
         for len in (0..=5).chain([16]) {
             let far = [1 << 32, 1 << 63, usize::MAX - 1, usize::MAX];
             for place in (0..=len + 1).chain(far) {
-                let n = if call.writes { random.pick(&numbers) } else { 0 };
-                list_one(&Field { call, bytes: random.bytes(len), place, n });
+                list_one(&Field { call, bytes: random.bytes(len), place, n: random.pick(&numbers) });
             }
         }
     }

@@ -3,4 +3,5 @@ pub mod Bytes
 pub mod Lists
 pub mod Refusals
 pub mod Single
+pub mod Tables
 pub mod Widths

@@ -1,5 +1,6 @@
 pub mod Bytes
 pub mod Error
 pub mod Field
+pub mod Members
 pub mod Said
 pub mod Single

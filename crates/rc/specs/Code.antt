@@ -1,0 +1,67 @@
+-- What a response code says (document 01, "Response code"; Part 2, TPM_RC and its format one), and the value of what is said.
+-- Assumes nothing: these are definitions.
+use Prim.Native.Nat.{ℕ, _+_, _-_, _*_, _/_, _%_}
+use mathlib.Core.Bool.{Bool, _&&_}
+use mathlib.Core.List.{List, [], _∷_}
+use lib.Bits.{bitOr}
+use lib.Dec.{eqb, ltb}
+use Rattle.base.specs.Error.{numbered}
+use Rattle.base.specs.Said.{Said, gives, refuses, either, needs}
+use Rattle.rc.specs.declared.code.TpmRcBase.{TpmRcBase}
+use Rattle.rc.specs.declared.code.Code.{Code}
+use Rattle.rc.specs.declared.code.Code.the-variants.{Fmt0, Warn, Fmt1, Parameter, Handle, Session}
+use Rattle.rc.specs.declared.code.Answer.{Answer}
+use Rattle.rc.specs.declared.code.Answer.the-variants as r
+use Rattle.rc.specs.Known.{isKnown}
+
+-- bit k of a value, told by 2 ^ k
+abbrev pub bit : ℕ → ℕ → Bool
+bit weight value = eqb (value / weight % 2) 1
+
+abbrev pub base : ℕ → TpmRcBase
+base b = record { 0 = b }
+
+-- format one, bit 7 set: P, bit 6, with N, bits 8 to 11, says which part the code speaks of
+unfoldable pub readIndex : ℕ → ℕ → Bool → ℕ → Said Code
+readIndex value b p n =
+    either p
+    (needs (ltb 0 n) (5 ∷ 0 ∷ value ∷ []) (gives (Parameter (base b) n)))
+    (either (eqb n 0) (gives (Fmt1 (base b)))
+    (either (ltb n 8) (gives (Handle (base b) n))
+    (gives (Session (base b) (n - 8)))))
+
+unfoldable pub readFmt1 : ℕ → Said Code
+readFmt1 value =
+    needs (ltb value 4096) (5 ∷ 0 ∷ value ∷ [])
+    (needs (isKnown (128 + value % 64)) (5 ∷ 0 ∷ value ∷ [])
+    (readIndex value (128 + value % 64) (bit 64 value) (value / 256 % 16)))
+
+-- format zero: the whole value is the base code; bits 8 and 11 both set make it a warning
+unfoldable pub readFmt0 : ℕ → Said Code
+readFmt0 value =
+    needs (isKnown value) (5 ∷ 0 ∷ value ∷ [])
+    (gives (either (bit 256 value && bit 2048 value) (Warn (base value)) (Fmt0 (base value))))
+
+unfoldable pub readCode : ℕ → Said Code
+readCode value = either (bit 128 value) (readFmt1 value) (readFmt0 value)
+
+-- the value of a code: the base, P at bit 6, the index at bits 8 to 11, masked to four bits
+abbrev pub valueOf : Code → ℕ
+valueOf (Fmt0 b) = b .0
+valueOf (Warn b) = b .0
+valueOf (Fmt1 b) = b .0
+valueOf (Parameter b n) = bitOr (bitOr (b .0) 64) (n % 16 * 256)
+valueOf (Handle b n) = bitOr (b .0) (n % 16 * 256)
+valueOf (Session b n) = bitOr (b .0) ((n + 8) % 16 * 256)
+
+abbrev pub baseOf : Code → ℕ
+baseOf (Fmt0 b) = b .0
+baseOf (Warn b) = b .0
+baseOf (Fmt1 b) = b .0
+baseOf (Parameter b n) = b .0
+baseOf (Handle b n) = b .0
+baseOf (Session b n) = b .0
+
+abbrev pub saidCode : Answer → Said Code
+saidCode (r.Code c) = gives c
+saidCode (r.Refused e) = refuses (numbered e)

@@ -1,0 +1,111 @@
+// A response code taken apart, and put together again.
+ghost use mathlib.Core.Path.{_≡_};
+ghost use Prim.Native.Nat.{_*_, _%_};
+ghost use Rattle.rc.specs.Code.{baseOf, readCode, readFmt1, saidCode, valueOf};
+use base::code::TpmRc;
+use base::error::TpmError;
+use crate::known::known;
+
+// A base code. Reading gives known ones alone.
+pub struct TpmRcBase(pub u32);
+
+// What a response code says: format zero, an error or a warning; or format one, of no part, or of the parameter,
+// handle or session of a number.
+pub enum Code {
+    Fmt0(TpmRcBase),
+    Warn(TpmRcBase),
+    Fmt1(TpmRcBase),
+    Parameter(TpmRcBase, u8),
+    Handle(TpmRcBase, u8),
+    Session(TpmRcBase, u8),
+}
+
+pub enum Answer {
+    Code(Code),
+    Refused(TpmError),
+}
+
+// What a response code says. Bit 7 tells the format, and so it is looked at before the warning's bits.
+pub fn read(rc: TpmRc) -> Answer
+    ensures { λ r. ⌜ saidCode r ≡ readCode (rc .0) ⌝ }
+{
+    let value = rc.0;
+    if value / 128 % 2 == 1 {
+        return read_fmt1(rc);
+    }
+    if !known(value) {
+        return Answer::Refused(rc.refused(0));
+    }
+    if value / 256 % 2 == 0 {
+        return Answer::Code(Code::Fmt0(TpmRcBase(value)));
+    }
+    if value / 2048 % 2 == 0 {
+        return Answer::Code(Code::Fmt0(TpmRcBase(value)));
+    }
+    Answer::Code(Code::Warn(TpmRcBase(value)))
+}
+
+// The same of a code whose bit 7 is set: bits 0 to 5 are the base's, bit 6 is P, bits 8 to 11 are N.
+fn read_fmt1(rc: TpmRc) -> Answer
+    ensures { λ r. ⌜ saidCode r ≡ readFmt1 (rc .0) ⌝ }
+{
+    let value = rc.0;
+    if value >= 4096 {
+        return Answer::Refused(rc.refused(0));
+    }
+    let base = 128 + value % 64;
+    if !known(base) {
+        return Answer::Refused(rc.refused(0));
+    }
+    let n = (value / 256 % 16) as u8;
+    if value / 64 % 2 == 1 {
+        if n == 0 {
+            return Answer::Refused(rc.refused(0));
+        }
+        return Answer::Code(Code::Parameter(TpmRcBase(base), n));
+    }
+    if n == 0 {
+        return Answer::Code(Code::Fmt1(TpmRcBase(base)));
+    }
+    if n < 8 {
+        return Answer::Code(Code::Handle(TpmRcBase(base), n));
+    }
+    Answer::Code(Code::Session(TpmRcBase(base), n - 8))
+}
+
+impl Code {
+    // The value of a code, an index masked to four bits.
+    pub fn value(self) -> u32
+        ensures { λ r. ⌜ r ≡ valueOf self ⌝ }
+    {
+        match self {
+            Code::Fmt0(base) => base.0,
+            Code::Warn(base) => base.0,
+            Code::Fmt1(base) => base.0,
+            Code::Parameter(base, n) => base.0 | 64 | index(n as u32),
+            Code::Handle(base, n) => base.0 | index(n as u32),
+            Code::Session(base, n) => base.0 | index(n as u32 + 8),
+        }
+    }
+
+    // The base code under any code.
+    pub fn base(self) -> TpmRcBase
+        ensures { λ r. ⌜ r .0 ≡ baseOf self ⌝ }
+    {
+        match self {
+            Code::Fmt0(base) => base,
+            Code::Warn(base) => base,
+            Code::Fmt1(base) => base,
+            Code::Parameter(base, _) => base,
+            Code::Handle(base, _) => base,
+            Code::Session(base, _) => base,
+        }
+    }
+}
+
+// The low four bits of a number, at the bits of N.
+fn index(n: u32) -> u32
+    ensures { λ r. ⌜ r ≡ n % 16 * 256 ⌝ }
+{
+    n % 16 * 256
+}
