@@ -1,5 +1,6 @@
 pub mod Answers
 pub mod Bytes
+pub mod Checks
 pub mod Lists
 pub mod Refusals
 pub mod Single

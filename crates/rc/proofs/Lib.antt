@@ -1,2 +1,5 @@
 pub mod Cases
+pub mod Laws
+pub mod Single
 pub mod Table
+pub mod Worked

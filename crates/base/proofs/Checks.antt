@@ -1,0 +1,35 @@
+-- An order of checks that gives an answer has passed each check: how a definition made of needs, either and then is taken apart.
+-- Assumes nothing.
+use mathlib.Core.Path.{_≡_, refl, subst, sym}
+use mathlib.Core.Bool.{Bool, true, false}
+use mathlib.Core.List.{List}
+use mathlib.Core.Logic.{_⊎_, inl, inr}
+use Prim.Native.Nat.{ℕ}
+use Rattle.base.specs.Said.{Said, gives, refuses, either, needs, then}
+
+abbrev isGiven : {A : Type 0} → Said A → Type 0
+isGiven (gives a) = Unit {0}
+isGiven (refuses why) = ⊥
+
+pub gives≢refuses : {A : Type 0} {a : A} {why : List ℕ} → gives a ≡ refuses why → ⊥
+gives≢refuses e = subst isGiven e tt
+
+pub gives-injective : {A : Type 0} {a b : A} → gives a ≡ gives b → a ≡ b
+gives-injective e = cc
+
+pub refuses-injective : {A : Type 0} {s t : List ℕ} → _≡_ {A = Said A} (refuses s) (refuses t) → s ≡ t
+refuses-injective e = cc
+
+module _ {A : Type 0} where
+  pub needs-gives : (t : Bool) (why : List ℕ) (rest : Said A) {a : A} → needs t why rest ≡ gives a → (t ≡ true) × (rest ≡ gives a)
+  needs-gives true why rest e = (refl, e)
+  needs-gives false why rest e = absurd (gives≢refuses (sym e))
+
+  pub either-gives : (t : Bool) (x y : Said A) {a : A} → either t x y ≡ gives a
+      → ((t ≡ true) × (x ≡ gives a)) ⊎ ((t ≡ false) × (y ≡ gives a))
+  either-gives true x y e = inl (refl, e)
+  either-gives false x y e = inr (refl, e)
+
+  pub then-gives : {B : Type 0} (s : Said A) (f : A → Said B) {b : B} → then s f ≡ gives b → (a : A) × (s ≡ gives a) × (f a ≡ gives b)
+  then-gives (gives a) f e = (a, refl, e)
+  then-gives (refuses why) f e = absurd (gives≢refuses (sym e))

@@ -1,0 +1,36 @@
+-- Each public function of rc leaves a single answer (base, specs/Single.antt).
+-- Assumes nothing.
+use mathlib.Core.Path.{_≡_, refl, sym, _∙_, ap}
+use Rattle.base.specs.Single.{Single}
+use Rattle.base.proofs.Refusals.{named-numbered}
+use Rattle.base.proofs.Answers.{injective-by, unsaid}
+use Rattle.rc.specs.declared.code.Answer.{Answer}
+use Rattle.rc.specs.declared.code.Answer.the-variants as answer
+use Rattle.rc.specs.Code.{saidCode}
+use Rattle.rc.proofs.known.known.Kinds as known-kinds
+use Rattle.rc.proofs.known.known.Reads as known-reads
+use Rattle.rc.proofs.code.read.Kinds as read-kinds
+use Rattle.rc.proofs.code.read.Reads as read-reads
+use Rattle.rc.proofs.code.Code.value.Kinds as value-kinds
+use Rattle.rc.proofs.code.Code.value.Reads as value-reads
+use Rattle.rc.proofs.code.Code.base.Kinds as base-kinds
+use Rattle.rc.proofs.code.Code.base.Reads as base-reads
+
+told : (a : Answer) → unsaid answer.Code answer.Refused (saidCode a) ≡ a
+told (answer.Code c) = refl
+told (answer.Refused e) = ap answer.Refused (named-numbered e)
+
+pub saidCode-injective : (a b : Answer) → saidCode a ≡ saidCode b → a ≡ b
+saidCode-injective = injective-by saidCode (unsaid answer.Code answer.Refused) told
+
+known : Single 0 known-kinds.ps known-kinds.r known-reads.Post
+known κs a x y v w p q = (p ∙ sym q, refl)
+
+read : Single 0 read-kinds.ps read-kinds.r read-reads.Post
+read κs a x y v w p q = (saidCode-injective x y (p ∙ sym q), refl)
+
+value : Single 0 value-kinds.ps value-kinds.r value-reads.Post
+value κs a x y v w p q = (p ∙ sym q, refl)
+
+base : Single 0 base-kinds.ps base-kinds.r base-reads.Post
+base κs a x y v w p q = (λ i. record { 0 = (p ∙ sym q) i }, refl)
