@@ -3,3 +3,4 @@
 // refusal's fields, in document 01's order. Of the array only as many numbers change as there are to report.
 pub mod field;
 mod out;
+pub mod code;

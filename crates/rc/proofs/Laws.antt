@@ -15,7 +15,7 @@ use Rattle.base.proofs.Checks.{needs-gives, either-gives, gives-injective}
 use Rattle.rc.specs.declared.code.Code.{Code}
 use Rattle.rc.specs.declared.code.Code.the-variants.{Fmt0, Warn, Fmt1, Parameter, Handle, Session}
 use Rattle.rc.specs.Known.{isKnown}
-use Rattle.rc.specs.Code.{bit, base, readIndex, readFmt1, readFmt0, readCode, valueOf}
+use Rattle.rc.specs.Code.{bit, base, readIndex, readFmt1, readFmt0, readCode, valueOf, kindOf, baseOf, indexOf, ofParts}
 use Rattle.rc.specs.Layout.{OfFmt0, OfFmt1, WellFormed}
 use Rattle.rc.proofs.Cases.{format-one, format-zero, fmt0-plain, fmt0-warning, fmt1-open, parameter, no-index, handle, session}
 
@@ -153,3 +153,13 @@ one-reading c d w u e = gives-injective (sym (complete c w) ∙ ap readCode e �
 -- writing a code that was read gives the value that it was read from, and reading it again the code
 pub read-again : (value : ℕ) (c : Code) → readCode value ≡ gives c → (valueOf c ≡ value) × (readCode (valueOf c) ≡ gives c)
 read-again value c e = let s = sound value c e in (s .1, complete c (s .0))
+
+-- a code is told whole by the numbers of its kind, its base and its part
+pub told-by-parts : (c : Code) → ofParts (kindOf c) (baseOf c) (indexOf c) ≡ gives c
+unfolding ofParts
+told-by-parts (Fmt0 b) = refl
+told-by-parts (Warn b) = refl
+told-by-parts (Fmt1 b) = refl
+told-by-parts (Parameter b n) = refl
+told-by-parts (Handle b n) = refl
+told-by-parts (Session b n) = refl

@@ -13,6 +13,12 @@ use Rattle.rc.proofs.code.read.Kinds as read-kinds
 use Rattle.rc.proofs.code.read.Reads as read-reads
 use Rattle.rc.proofs.code.Code.value.Kinds as value-kinds
 use Rattle.rc.proofs.code.Code.value.Reads as value-reads
+use Rattle.rc.proofs.code.Code.from_parts.Kinds as from-parts-kinds
+use Rattle.rc.proofs.code.Code.from_parts.Reads as from-parts-reads
+use Rattle.rc.proofs.code.Code.kind.Kinds as kind-kinds
+use Rattle.rc.proofs.code.Code.kind.Reads as kind-reads
+use Rattle.rc.proofs.code.Code.index.Kinds as index-kinds
+use Rattle.rc.proofs.code.Code.index.Reads as index-reads
 use Rattle.rc.proofs.code.Code.base.Kinds as base-kinds
 use Rattle.rc.proofs.code.Code.base.Reads as base-reads
 
@@ -34,3 +40,12 @@ value κs a x y v w p q = (p ∙ sym q, refl)
 
 base : Single 0 base-kinds.ps base-kinds.r base-reads.Post
 base κs a x y v w p q = (λ i. record { 0 = (p ∙ sym q) i }, refl)
+
+from-parts : Single 0 from-parts-kinds.ps from-parts-kinds.r from-parts-reads.Post
+from-parts κs a x y v w p q = (saidCode-injective x y (p ∙ sym q), refl)
+
+kind : Single 0 kind-kinds.ps kind-kinds.r kind-reads.Post
+kind κs a x y v w p q = (p ∙ sym q, refl)
+
+index : Single 0 index-kinds.ps index-kinds.r index-reads.Post
+index κs a x y v w p q = (p ∙ sym q, refl)

@@ -62,6 +62,34 @@ baseOf (Parameter b n) = b .0
 baseOf (Handle b n) = b .0
 baseOf (Session b n) = b .0
 
+-- the number of a code's kind, and of the part that it speaks of, 0 for none
+abbrev pub kindOf : Code → ℕ
+kindOf (Fmt0 b) = 0
+kindOf (Warn b) = 1
+kindOf (Fmt1 b) = 2
+kindOf (Parameter b n) = 3
+kindOf (Handle b n) = 4
+kindOf (Session b n) = 5
+
+abbrev pub indexOf : Code → ℕ
+indexOf (Fmt0 b) = 0
+indexOf (Warn b) = 0
+indexOf (Fmt1 b) = 0
+indexOf (Parameter b n) = n
+indexOf (Handle b n) = n
+indexOf (Session b n) = n
+
+-- the code of a kind's number; there are six kinds
+unfoldable pub ofParts : ℕ → ℕ → ℕ → Said Code
+ofParts kind b n =
+    either (eqb kind 0) (gives (Fmt0 (base b)))
+    (either (eqb kind 1) (gives (Warn (base b)))
+    (either (eqb kind 2) (gives (Fmt1 (base b)))
+    (either (eqb kind 3) (gives (Parameter (base b) n))
+    (either (eqb kind 4) (gives (Handle (base b) n))
+    (either (eqb kind 5) (gives (Session (base b) n))
+    (refuses (5 ∷ 0 ∷ kind ∷ [])))))))
+
 abbrev pub saidCode : Answer → Said Code
 saidCode (r.Code c) = gives c
 saidCode (r.Refused e) = refuses (numbered e)

@@ -1,7 +1,7 @@
 // A response code taken apart, and put together again.
 ghost use mathlib.Core.Path.{_≡_};
 ghost use Prim.Native.Nat.{_*_, _%_};
-ghost use Rattle.rc.specs.Code.{baseOf, readCode, readFmt1, saidCode, valueOf};
+ghost use Rattle.rc.specs.Code.{baseOf, indexOf, kindOf, ofParts, readCode, readFmt1, saidCode, valueOf};
 use base::code::TpmRc;
 use base::error::TpmError;
 use crate::known::known;
@@ -74,6 +74,50 @@ fn read_fmt1(rc: TpmRc) -> Answer
 }
 
 impl Code {
+    // The code of a kind, a base and an index, of which kinds without one take no notice.
+    pub fn from_parts(kind: u32, base: u32, index: u8) -> Answer
+        ensures { λ r. ⌜ saidCode r ≡ ofParts kind base index ⌝ }
+    {
+        let base = TpmRcBase(base);
+        match kind {
+            0 => Answer::Code(Code::Fmt0(base)),
+            1 => Answer::Code(Code::Warn(base)),
+            2 => Answer::Code(Code::Fmt1(base)),
+            3 => Answer::Code(Code::Parameter(base, index)),
+            4 => Answer::Code(Code::Handle(base, index)),
+            5 => Answer::Code(Code::Session(base, index)),
+            _ => Answer::Refused(TpmRc(kind).refused(0)),
+        }
+    }
+
+    // The number of a code's kind, from 0 in the order of the variants.
+    pub fn kind(self) -> u32
+        ensures { λ r. ⌜ r ≡ kindOf self ⌝ }
+    {
+        match self {
+            Code::Fmt0(_) => 0,
+            Code::Warn(_) => 1,
+            Code::Fmt1(_) => 2,
+            Code::Parameter(_, _) => 3,
+            Code::Handle(_, _) => 4,
+            Code::Session(_, _) => 5,
+        }
+    }
+
+    // The number of the part that a code speaks of, 0 where it speaks of none.
+    pub fn index(self) -> u8
+        ensures { λ r. ⌜ r ≡ indexOf self ⌝ }
+    {
+        match self {
+            Code::Fmt0(_) => 0,
+            Code::Warn(_) => 0,
+            Code::Fmt1(_) => 0,
+            Code::Parameter(_, n) => n,
+            Code::Handle(_, n) => n,
+            Code::Session(_, n) => n,
+        }
+    }
+
     // The value of a code, an index masked to four bits.
     pub fn value(self) -> u32
         ensures { λ r. ⌜ r ≡ valueOf self ⌝ }
@@ -82,9 +126,9 @@ impl Code {
             Code::Fmt0(base) => base.0,
             Code::Warn(base) => base.0,
             Code::Fmt1(base) => base.0,
-            Code::Parameter(base, n) => base.0 | 64 | index(n as u32),
-            Code::Handle(base, n) => base.0 | index(n as u32),
-            Code::Session(base, n) => base.0 | index(n as u32 + 8),
+            Code::Parameter(base, n) => base.0 | 64 | shifted(n as u32),
+            Code::Handle(base, n) => base.0 | shifted(n as u32),
+            Code::Session(base, n) => base.0 | shifted(n as u32 + 8),
         }
     }
 
@@ -104,7 +148,7 @@ impl Code {
 }
 
 // The low four bits of a number, at the bits of N.
-fn index(n: u32) -> u32
+fn shifted(n: u32) -> u32
     ensures { λ r. ⌜ r ≡ n % 16 * 256 ⌝ }
 {
     n % 16 * 256
