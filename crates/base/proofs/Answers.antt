@@ -1,45 +1,62 @@
--- The answers of the code are named by what they say: each reading of an answer enum is injective.
+-- An answer is told whole by what it says: each reading of an answer enum is injective.
 -- Assumes nothing.
 use mathlib.Core.Path.{_≡_, refl, sym, _∙_, ap}
-use mathlib.Core.List.{List}
 use Prim.Native.Nat.{ℕ}
 use Rattle.base.specs.declared.error.TpmError.{TpmError}
-use Rattle.base.specs.declared.field.Read16.{Read16}
-use Rattle.base.specs.declared.field.Read16.the-variants as r16
-use Rattle.base.specs.declared.field.Read32.{Read32}
-use Rattle.base.specs.declared.field.Read32.the-variants as r32
-use Rattle.base.specs.declared.field.Write.{Write}
-use Rattle.base.specs.declared.field.Write.the-variants as w
+use Rattle.base.specs.declared.answer.Outcome.{Outcome}
+use Rattle.base.specs.declared.answer.Outcome.the-variants as outcome
+use Rattle.base.specs.declared.answer.Number16.{Number16}
+use Rattle.base.specs.declared.answer.Number16.the-variants as number16
+use Rattle.base.specs.declared.answer.Number32.{Number32}
+use Rattle.base.specs.declared.answer.Number32.the-variants as number32
+use Rattle.base.specs.declared.answer.Count.{Count}
+use Rattle.base.specs.declared.answer.Count.the-variants as count
+use Rattle.base.specs.declared.answer.Flag.{Flag}
+use Rattle.base.specs.declared.answer.Flag.the-variants as flag
 use Rattle.base.specs.Said.{Said, gives, refuses}
-use Rattle.base.specs.Field.{said16, said32, saidWrite}
+use Rattle.base.specs.Answer.{saidOutcome, saidNumber16, saidNumber32, saidCount, saidFlag}
 use Rattle.base.proofs.Refusals.{named, named-numbered}
 
 -- a function with a left inverse is injective
 pub injective-by : {A B : Type 0} (f : A → B) (back : B → A) → ((a : A) → back (f a) ≡ a) → (a b : A) → f a ≡ f b → a ≡ b
 injective-by f back e a b p = sym (e a) ∙ ap back p ∙ e b
 
--- the answer that is said, of an enum with one variant for what is given and one for a refusal
+-- the answer that says this, of an enum with one variant for what is given and one for a refusal
 abbrev pub unsaid : {A E : Type 0} → (A → E) → (TpmError → E) → Said A → E
-unsaid value refused (gives a) = value a
-unsaid value refused (refuses why) = refused (named why)
+unsaid given refused (gives a) = given a
+unsaid given refused (refuses why) = refused (named why)
 
-read16 : (a : Read16) → unsaid r16.Value r16.Refused (said16 a) ≡ a
-read16 (r16.Value n) = refl
-read16 (r16.Refused e) = ap r16.Refused (named-numbered e)
+told-outcome : (a : Outcome) → unsaid (λ (u : Unit {0}). outcome.Done) outcome.Refused (saidOutcome a) ≡ a
+told-outcome outcome.Done = refl
+told-outcome (outcome.Refused e) = ap outcome.Refused (named-numbered e)
 
-pub said16-injective : (a b : Read16) → said16 a ≡ said16 b → a ≡ b
-said16-injective = injective-by said16 (unsaid r16.Value r16.Refused) read16
+pub saidOutcome-injective : (a b : Outcome) → saidOutcome a ≡ saidOutcome b → a ≡ b
+saidOutcome-injective = injective-by saidOutcome (unsaid (λ (u : Unit {0}). outcome.Done) outcome.Refused) told-outcome
 
-read32 : (a : Read32) → unsaid r32.Value r32.Refused (said32 a) ≡ a
-read32 (r32.Value n) = refl
-read32 (r32.Refused e) = ap r32.Refused (named-numbered e)
+told-number16 : (a : Number16) → unsaid number16.Is number16.Refused (saidNumber16 a) ≡ a
+told-number16 (number16.Is x) = refl
+told-number16 (number16.Refused e) = ap number16.Refused (named-numbered e)
 
-pub said32-injective : (a b : Read32) → said32 a ≡ said32 b → a ≡ b
-said32-injective = injective-by said32 (unsaid r32.Value r32.Refused) read32
+pub saidNumber16-injective : (a b : Number16) → saidNumber16 a ≡ saidNumber16 b → a ≡ b
+saidNumber16-injective = injective-by saidNumber16 (unsaid number16.Is number16.Refused) told-number16
 
-write : (a : Write) → unsaid (λ (u : Unit {0}). w.Done) w.Refused (saidWrite a) ≡ a
-write w.Done = refl
-write (w.Refused e) = ap w.Refused (named-numbered e)
+told-number32 : (a : Number32) → unsaid number32.Is number32.Refused (saidNumber32 a) ≡ a
+told-number32 (number32.Is x) = refl
+told-number32 (number32.Refused e) = ap number32.Refused (named-numbered e)
 
-pub saidWrite-injective : (a b : Write) → saidWrite a ≡ saidWrite b → a ≡ b
-saidWrite-injective = injective-by saidWrite (unsaid (λ (u : Unit {0}). w.Done) w.Refused) write
+pub saidNumber32-injective : (a b : Number32) → saidNumber32 a ≡ saidNumber32 b → a ≡ b
+saidNumber32-injective = injective-by saidNumber32 (unsaid number32.Is number32.Refused) told-number32
+
+told-count : (a : Count) → unsaid count.Is count.Refused (saidCount a) ≡ a
+told-count (count.Is x) = refl
+told-count (count.Refused e) = ap count.Refused (named-numbered e)
+
+pub saidCount-injective : (a b : Count) → saidCount a ≡ saidCount b → a ≡ b
+saidCount-injective = injective-by saidCount (unsaid count.Is count.Refused) told-count
+
+told-flag : (a : Flag) → unsaid flag.Is flag.Refused (saidFlag a) ≡ a
+told-flag (flag.Is x) = refl
+told-flag (flag.Refused e) = ap flag.Refused (named-numbered e)
+
+pub saidFlag-injective : (a b : Flag) → saidFlag a ≡ saidFlag b → a ≡ b
+saidFlag-injective = injective-by saidFlag (unsaid flag.Is flag.Refused) told-flag

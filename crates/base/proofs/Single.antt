@@ -3,7 +3,7 @@
 use mathlib.Core.Path.{refl, sym, _∙_}
 use Rattle.base.specs.Single.{Single}
 use Rattle.base.proofs.Refusals.{numbered-injective}
-use Rattle.base.proofs.Answers.{said16-injective, said32-injective, saidWrite-injective}
+use Rattle.base.proofs.Answers.{saidNumber16-injective, saidNumber32-injective, saidOutcome-injective}
 use Rattle.base.proofs.code.TpmSt.refused.Kinds as TpmSt-refused-kinds
 use Rattle.base.proofs.code.TpmSt.refused.Reads as TpmSt-refused-reads
 use Rattle.base.proofs.code.TpmCc.refused.Kinds as TpmCc-refused-kinds
@@ -44,13 +44,13 @@ be32 : Single 0 be32-kinds.ps be32-kinds.r be32-reads.Post
 be32 κs a x y v w p q = (p ∙ sym q, refl)
 
 read-u16 : Single 1 read-u16-kinds.ps read-u16-kinds.r read-u16-reads.Post
-read-u16 κs a x y v w p q = (said16-injective x y (p ∙ sym q), refl)
+read-u16 κs a x y v w p q = (saidNumber16-injective x y (p ∙ sym q), refl)
 
 read-u32 : Single 1 read-u32-kinds.ps read-u32-kinds.r read-u32-reads.Post
-read-u32 κs a x y v w p q = (said32-injective x y (p ∙ sym q), refl)
+read-u32 κs a x y v w p q = (saidNumber32-injective x y (p ∙ sym q), refl)
 
 write-u16 : Single 1 write-u16-kinds.ps write-u16-kinds.r write-u16-reads.Post
-write-u16 κs a x y v w p q = (saidWrite-injective x y (p .0 ∙ sym (q .0)), λ i. ((p .1 ∙ sym (q .1)) i, (tt, (tt, tt))))
+write-u16 κs a x y v w p q = (saidOutcome-injective x y (p .0 ∙ sym (q .0)), λ i. ((p .1 ∙ sym (q .1)) i, (tt, (tt, tt))))
 
 write-u32 : Single 1 write-u32-kinds.ps write-u32-kinds.r write-u32-reads.Post
-write-u32 κs a x y v w p q = (saidWrite-injective x y (p .0 ∙ sym (q .0)), λ i. ((p .1 ∙ sym (q .1)) i, (tt, (tt, tt))))
+write-u32 κs a x y v w p q = (saidOutcome-injective x y (p .0 ∙ sym (q .0)), λ i. ((p .1 ∙ sym (q .1)) i, (tt, (tt, tt))))

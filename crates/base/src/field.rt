@@ -5,25 +5,12 @@ ghost use mathlib.Core.List.{[], _∷_};
 ghost use Prim.Native.Nat.{_-_};
 ghost use Rattle.base.specs.Bytes.{number};
 ghost use Rattle.base.specs.Said.{after, done};
-ghost use Rattle.base.specs.Field.{readField, writeField, said16, said32, saidWrite};
+ghost use Rattle.base.specs.Answer.{saidNumber16, saidNumber32, saidOutcome};
+ghost use Rattle.base.specs.Field.{readField, writeField};
+use crate::answer::Number16;
+use crate::answer::Number32;
+use crate::answer::Outcome;
 use crate::error::TpmError;
-
-// What a field read answers, at each width.
-pub enum Read16 {
-    Value(u16),
-    Refused(TpmError),
-}
-
-pub enum Read32 {
-    Value(u32),
-    Refused(TpmError),
-}
-
-// What a field write answers, at either width.
-pub enum Write {
-    Done,
-    Refused(TpmError),
-}
 
 // How many of len bytes stand at a place and behind it.
 pub fn left(len: usize, place: usize) -> usize
@@ -46,41 +33,41 @@ pub fn be32(a: u8, b: u8, c: u8, d: u8) -> u32
     (be16(a, b) as u32) * 65536 + (be16(c, d) as u32)
 }
 
-pub fn read_u16(s: &[u8], place: usize) -> Read16
-    ensures { λ r. ⌜ said16 r ≡ readField 2 place (now (s .entry)) ⌝ }
+pub fn read_u16(s: &[u8], place: usize) -> Number16
+    ensures { λ r. ⌜ saidNumber16 r ≡ readField 2 place (now (s .entry)) ⌝ }
 {
     let left = left(s.len(), place);
     if left < 2 {
-        return Read16::Refused(TpmError::UnexpectedEnd {
+        return Number16::Refused(TpmError::UnexpectedEnd {
             offset: place,
             needed: 2,
             available: left,
         });
     }
-    Read16::Value(be16(s[place], s[place + 1]))
+    Number16::Is(be16(s[place], s[place + 1]))
 }
 
-pub fn read_u32(s: &[u8], place: usize) -> Read32
-    ensures { λ r. ⌜ said32 r ≡ readField 4 place (now (s .entry)) ⌝ }
+pub fn read_u32(s: &[u8], place: usize) -> Number32
+    ensures { λ r. ⌜ saidNumber32 r ≡ readField 4 place (now (s .entry)) ⌝ }
 {
     let left = left(s.len(), place);
     if left < 4 {
-        return Read32::Refused(TpmError::UnexpectedEnd {
+        return Number32::Refused(TpmError::UnexpectedEnd {
             offset: place,
             needed: 4,
             available: left,
         });
     }
-    Read32::Value(be32(s[place], s[place + 1], s[place + 2], s[place + 3]))
+    Number32::Is(be32(s[place], s[place + 1], s[place + 2], s[place + 3]))
 }
 
-pub fn write_u16(s: &mut [u8], place: usize, n: u16) -> Write
-    ensures answer { λ r. ⌜ saidWrite r ≡ done (writeField 2 place n (now (s .entry))) ⌝ }
+pub fn write_u16(s: &mut [u8], place: usize, n: u16) -> Outcome
+    ensures answer { λ r. ⌜ saidOutcome r ≡ done (writeField 2 place n (now (s .entry))) ⌝ }
     ensures bytes { λ r. ⌜ now (s .exit) ≡ after (now (s .entry)) (writeField 2 place n (now (s .entry))) ⌝ }
 {
     let left = left(s.len(), place);
     if left < 2 {
-        return Write::Refused(TpmError::BufferOverflow {
+        return Outcome::Refused(TpmError::BufferOverflow {
             offset: place,
             needed: 2,
             available: left,
@@ -88,16 +75,16 @@ pub fn write_u16(s: &mut [u8], place: usize, n: u16) -> Write
     }
     s[place] = (n / 256) as u8;
     s[place + 1] = (n % 256) as u8;
-    Write::Done
+    Outcome::Done
 }
 
-pub fn write_u32(s: &mut [u8], place: usize, n: u32) -> Write
-    ensures answer { λ r. ⌜ saidWrite r ≡ done (writeField 4 place n (now (s .entry))) ⌝ }
+pub fn write_u32(s: &mut [u8], place: usize, n: u32) -> Outcome
+    ensures answer { λ r. ⌜ saidOutcome r ≡ done (writeField 4 place n (now (s .entry))) ⌝ }
     ensures bytes { λ r. ⌜ now (s .exit) ≡ after (now (s .entry)) (writeField 4 place n (now (s .entry))) ⌝ }
 {
     let left = left(s.len(), place);
     if left < 4 {
-        return Write::Refused(TpmError::BufferOverflow {
+        return Outcome::Refused(TpmError::BufferOverflow {
             offset: place,
             needed: 4,
             available: left,
@@ -107,5 +94,5 @@ pub fn write_u32(s: &mut [u8], place: usize, n: u32) -> Write
     s[place + 1] = (n / 65536 % 256) as u8;
     s[place + 2] = (n / 256 % 256) as u8;
     s[place + 3] = (n % 256) as u8;
-    Write::Done
+    Outcome::Done
 }

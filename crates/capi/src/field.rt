@@ -5,9 +5,9 @@ ghost use Rattle.base.specs.Said.{after};
 ghost use Rattle.capi.specs.Out.{Reports, one, none};
 use crate::out;
 use crate::out::Numbers;
-use base::field::Read16;
-use base::field::Read32;
-use base::field::Write;
+use base::answer::Number16;
+use base::answer::Number32;
+use base::answer::Outcome;
 
 #[no_mangle]
 pub extern "C" fn skein_read_u16(s: &[u8], place: usize, out: &mut Numbers) -> u32
@@ -15,11 +15,11 @@ pub extern "C" fn skein_read_u16(s: &[u8], place: usize, out: &mut Numbers) -> u
 {
     let read = base::field::read_u16(s, place);
     match read {
-        Read16::Value(n) => {
+        Number16::Is(n) => {
             out[0] = n as u64;
             0
         }
-        Read16::Refused(e) => out::refuse(e, out),
+        Number16::Refused(e) => out::refuse(e, out),
     }
 }
 
@@ -29,11 +29,11 @@ pub extern "C" fn skein_read_u32(s: &[u8], place: usize, out: &mut Numbers) -> u
 {
     let read = base::field::read_u32(s, place);
     match read {
-        Read32::Value(n) => {
+        Number32::Is(n) => {
             out[0] = n as u64;
             0
         }
-        Read32::Refused(e) => out::refuse(e, out),
+        Number32::Refused(e) => out::refuse(e, out),
     }
 }
 
@@ -44,8 +44,8 @@ pub extern "C" fn skein_write_u16(s: &mut [u8], place: usize, n: u16, out: &mut 
 {
     let wrote = base::field::write_u16(s, place, n);
     match wrote {
-        Write::Done => 0,
-        Write::Refused(e) => out::refuse(e, out),
+        Outcome::Done => 0,
+        Outcome::Refused(e) => out::refuse(e, out),
     }
 }
 
@@ -56,7 +56,7 @@ pub extern "C" fn skein_write_u32(s: &mut [u8], place: usize, n: u32, out: &mut 
 {
     let wrote = base::field::write_u32(s, place, n);
     match wrote {
-        Write::Done => 0,
-        Write::Refused(e) => out::refuse(e, out),
+        Outcome::Done => 0,
+        Outcome::Refused(e) => out::refuse(e, out),
     }
 }

@@ -1,7 +1,7 @@
 -- `capi::field::skein_read_u16` meets its contract: it reports what `read_u16` said.
 -- Assumes nothing.
 use mathlib.Core.Path.{sym, _∙_, ap}
-use Rattle.base.specs.Field.{said16}
+use Rattle.base.specs.Answer.{saidNumber16}
 use Rattle.capi.specs.Out.{one}
 use Rattle.capi.proofs.Reported.{answered, refused}
 use borrow.Author.Needs.{needs}
@@ -27,10 +27,10 @@ refuse-requires : tie.Need-refuse-requires
 refuse-requires c κs = search needs
 
 returns : tie.Need-returns
-returns c = answered one _ _ _ (sym (ap said16 (c .before .read .given .1)) ∙ c .before .before .before .read-u16 .ensures)
+returns c = answered one _ _ _ (sym (ap saidNumber16 (c .before .read .given .1)) ∙ c .before .before .before .read-u16 .ensures)
 
 returns-2 : tie.Need-returns-2
-returns-2 c = refused one _ _ _ _ _ (sym (ap said16 (c .before .before .before .read2 .given .1)) ∙ c .before .before .before .before .before .read-u16 .ensures) (c .refuse .ensures)
+returns-2 c = refused one _ _ _ _ _ (sym (ap saidNumber16 (c .before .before .before .read2 .given .1)) ∙ c .before .before .before .before .before .read-u16 .ensures) (c .refuse .ensures)
 
 pub skein-read-u16-spec : {M : Type 1} → statement M
 skein-read-u16-spec =

@@ -1,7 +1,7 @@
 -- `capi::field::skein_read_u32` meets its contract: it reports what `read_u32` said.
 -- Assumes nothing.
 use mathlib.Core.Path.{sym, _∙_, ap}
-use Rattle.base.specs.Field.{said32}
+use Rattle.base.specs.Answer.{saidNumber32}
 use Rattle.capi.specs.Out.{one}
 use Rattle.capi.proofs.Reported.{answered, refused}
 use borrow.Author.Needs.{needs}
@@ -27,10 +27,10 @@ refuse-requires : tie.Need-refuse-requires
 refuse-requires c κs = search needs
 
 returns : tie.Need-returns
-returns c = answered one _ _ _ (sym (ap said32 (c .before .read .given .1)) ∙ c .before .before .before .read-u32 .ensures)
+returns c = answered one _ _ _ (sym (ap saidNumber32 (c .before .read .given .1)) ∙ c .before .before .before .read-u32 .ensures)
 
 returns-2 : tie.Need-returns-2
-returns-2 c = refused one _ _ _ _ _ (sym (ap said32 (c .before .before .before .read2 .given .1)) ∙ c .before .before .before .before .before .read-u32 .ensures) (c .refuse .ensures)
+returns-2 c = refused one _ _ _ _ _ (sym (ap saidNumber32 (c .before .before .before .read2 .given .1)) ∙ c .before .before .before .before .before .read-u32 .ensures) (c .refuse .ensures)
 
 pub skein-read-u32-spec : {M : Type 1} → statement M
 skein-read-u32-spec =

@@ -1,7 +1,7 @@
 -- `capi::field::skein_write_u32` meets its contract: it reports what `write_u32` said, and the bytes are as that left them.
 -- Assumes nothing.
 use mathlib.Core.Path.{sym, _∙_, ap}
-use Rattle.base.specs.Field.{saidWrite}
+use Rattle.base.specs.Answer.{saidOutcome}
 use Rattle.capi.specs.Out.{none}
 use Rattle.capi.proofs.Reported.{answered, refused, written}
 use borrow.Author.Needs.{needs}
@@ -26,7 +26,7 @@ same-length c = search needs
 returns : tie.Need-returns
 returns c =
     let wrote = c .before .before .before .before .write-u32 in
-    (written _ _ _ _ (answered none _ _ tt (sym (ap saidWrite (c .enum-told .given .1)) ∙ wrote .ensures .0)), wrote .ensures .1)
+    (written _ _ _ _ (answered none _ _ tt (sym (ap saidOutcome (c .enum-told .given .1)) ∙ wrote .ensures .0)), wrote .ensures .1)
 
 same-length-2 : tie.Need-same-length-2
 same-length-2 c = search needs
@@ -34,7 +34,7 @@ same-length-2 c = search needs
 returns-2 : tie.Need-returns-2
 returns-2 c =
     let wrote = c .before .before .before .before .before .before .before .write-u32 in
-    (written _ _ _ _ (refused none _ _ _ _ _ (sym (ap saidWrite (c .before .before .before .wrote .given .1)) ∙ wrote .ensures .0) (c .refuse .ensures)), wrote .ensures .1)
+    (written _ _ _ _ (refused none _ _ _ _ _ (sym (ap saidOutcome (c .before .before .before .wrote .given .1)) ∙ wrote .ensures .0) (c .refuse .ensures)), wrote .ensures .1)
 
 pub skein-write-u32-spec : {M : Type 1} → statement M
 skein-write-u32-spec =

@@ -1,0 +1,36 @@
+-- The answers that calls share, in the paper's terms.
+-- Assumes nothing: these are definitions.
+use Prim.Native.Nat.{ℕ}
+use mathlib.Core.Bool.{Bool}
+use Rattle.base.specs.declared.answer.Outcome.{Outcome}
+use Rattle.base.specs.declared.answer.Outcome.the-variants as outcome
+use Rattle.base.specs.declared.answer.Number16.{Number16}
+use Rattle.base.specs.declared.answer.Number16.the-variants as number16
+use Rattle.base.specs.declared.answer.Number32.{Number32}
+use Rattle.base.specs.declared.answer.Number32.the-variants as number32
+use Rattle.base.specs.declared.answer.Count.{Count}
+use Rattle.base.specs.declared.answer.Count.the-variants as count
+use Rattle.base.specs.declared.answer.Flag.{Flag}
+use Rattle.base.specs.declared.answer.Flag.the-variants as flag
+use Rattle.base.specs.Error.{numbered}
+use Rattle.base.specs.Said.{Said, gives, refuses}
+
+abbrev pub saidOutcome : Outcome → Said (Unit {0})
+saidOutcome outcome.Done = gives tt
+saidOutcome (outcome.Refused e) = refuses (numbered e)
+
+abbrev pub saidNumber16 : Number16 → Said ℕ
+saidNumber16 (number16.Is x) = gives x
+saidNumber16 (number16.Refused e) = refuses (numbered e)
+
+abbrev pub saidNumber32 : Number32 → Said ℕ
+saidNumber32 (number32.Is x) = gives x
+saidNumber32 (number32.Refused e) = refuses (numbered e)
+
+abbrev pub saidCount : Count → Said ℕ
+saidCount (count.Is x) = gives x
+saidCount (count.Refused e) = refuses (numbered e)
+
+abbrev pub saidFlag : Flag → Said Bool
+saidFlag (flag.Is x) = gives x
+saidFlag (flag.Refused e) = refuses (numbered e)

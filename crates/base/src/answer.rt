@@ -1,0 +1,28 @@
+// The answers that calls share: what was asked for, or the refusal.
+use crate::error::TpmError;
+
+// Of a call that only does or checks something.
+pub enum Outcome {
+    Done,
+    Refused(TpmError),
+}
+
+pub enum Number16 {
+    Is(u16),
+    Refused(TpmError),
+}
+
+pub enum Number32 {
+    Is(u32),
+    Refused(TpmError),
+}
+
+pub enum Count {
+    Is(usize),
+    Refused(TpmError),
+}
+
+pub enum Flag {
+    Is(bool),
+    Refused(TpmError),
+}
