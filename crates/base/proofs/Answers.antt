@@ -13,13 +13,19 @@ use Rattle.base.specs.declared.answer.Count.{Count}
 use Rattle.base.specs.declared.answer.Count.the-variants as count
 use Rattle.base.specs.declared.answer.Flag.{Flag}
 use Rattle.base.specs.declared.answer.Flag.the-variants as flag
+use Rattle.base.specs.declared.answer.Range.{Range}
+use Rattle.base.specs.declared.answer.Range.the-variants as range
 use Rattle.base.specs.Said.{Said, gives, refuses}
-use Rattle.base.specs.Answer.{saidOutcome, saidNumber16, saidNumber32, saidCount, saidFlag}
+use Rattle.base.specs.Answer.{saidOutcome, saidNumber16, saidNumber32, saidCount, saidFlag, Part, saidRange}
 use Rattle.base.proofs.Refusals.{named, named-numbered}
 
 -- a function with a left inverse is injective
 pub injective-by : {A B : Type 0} (f : A → B) (back : B → A) → ((a : A) → back (f a) ≡ a) → (a b : A) → f a ≡ f b → a ≡ b
 injective-by f back e a b p = sym (e a) ∙ ap back p ∙ e b
+
+-- what a call said of its answer holds of the variant that the answer was found to be
+pub learnt : {E S : Type 0} (said : E → S) {x e : E} {s : S} → x ≡ e → said x ≡ s → said e ≡ s
+learnt said p q = sym (ap said p) ∙ q
 
 -- the answer that says this, of an enum with one variant for what is given and one for a refusal
 abbrev pub unsaid : {A E : Type 0} → (A → E) → (TpmError → E) → Said A → E
@@ -60,3 +66,13 @@ told-flag (flag.Refused e) = ap flag.Refused (named-numbered e)
 
 pub saidFlag-injective : (a b : Flag) → saidFlag a ≡ saidFlag b → a ≡ b
 saidFlag-injective = injective-by saidFlag (unsaid flag.Is flag.Refused) told-flag
+
+abbrev rangeOf : Part → Range
+rangeOf p = range.Is (p .from) (p .to)
+
+told-range : (a : Range) → unsaid rangeOf range.Refused (saidRange a) ≡ a
+told-range (range.Is from to) = refl
+told-range (range.Refused e) = ap range.Refused (named-numbered e)
+
+pub saidRange-injective : (a b : Range) → saidRange a ≡ saidRange b → a ≡ b
+saidRange-injective = injective-by saidRange (unsaid rangeOf range.Refused) told-range

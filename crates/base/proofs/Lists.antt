@@ -3,9 +3,10 @@
 use mathlib.Core.Path.{_≡_, refl, sym, _∙_, ap}
 use mathlib.Core.List.{List, [], _∷_, _++_, append-assoc}
 use Prim.Native.Nat.{ℕ, zero, suc, _+_, _-_, _≤_, _<_}
+use native.Mathlib.Nat.{le-of-eq}
 use native.Mathlib.Omega.{arith}
-use lib.ListN.{length, getD, take, drop}
-use lib.Seq.{drop-cons, sets, sets-eq}
+use lib.ListN.{length, getD, take, drop, length-drop}
+use lib.Seq.{drop-cons, sets, sets-eq, take-all}
 
 -- the w elements from a place on, one by one
 abbrev pub span : List ℕ → ℕ → ℕ → List ℕ
@@ -21,3 +22,7 @@ take-drop-span (suc w) place s h =
 pub stored : (s : List ℕ) (place : ℕ) (v : List ℕ) → length v ≤ length s - place → place ≤ length s
     → sets s place v ≡ take place s ++ (v ++ drop (place + length v) s)
 stored s place v h k = sets-eq v s place (omega arith) ∙ append-assoc (take place s) v (drop (place + length v) s)
+
+-- all that stands from a place on
+pub take-rest : (n : ℕ) (s : List ℕ) → take (length s - n) (drop n s) ≡ drop n s
+take-rest n s = take-all (length s - n) (drop n s) (le-of-eq (length-drop n s))

@@ -12,6 +12,8 @@ use Rattle.base.specs.declared.answer.Count.{Count}
 use Rattle.base.specs.declared.answer.Count.the-variants as count
 use Rattle.base.specs.declared.answer.Flag.{Flag}
 use Rattle.base.specs.declared.answer.Flag.the-variants as flag
+use Rattle.base.specs.declared.answer.Range.{Range}
+use Rattle.base.specs.declared.answer.Range.the-variants as range
 use Rattle.base.specs.Error.{numbered}
 use Rattle.base.specs.Said.{Said, gives, refuses}
 
@@ -34,3 +36,12 @@ saidCount (count.Refused e) = refuses (numbered e)
 abbrev pub saidFlag : Flag → Said Bool
 saidFlag (flag.Is x) = gives x
 saidFlag (flag.Refused e) = refuses (numbered e)
+
+-- a part of lent bytes: from its start up to its end
+pub record Part : Type 0 where
+  pub from : ℕ
+  pub to : ℕ
+
+abbrev pub saidRange : Range → Said Part
+saidRange (range.Is from to) = gives (record { from = from; to = to })
+saidRange (range.Refused e) = refuses (numbered e)

@@ -26,3 +26,9 @@ pub enum Flag {
     Is(bool),
     Refused(TpmError),
 }
+
+// A part of lent bytes, by its start and its end.
+pub enum Range {
+    Is { from: usize, to: usize },
+    Refused(TpmError),
+}
