@@ -6,7 +6,7 @@ use Prim.Native.Nat.{ℕ, zero, suc, _+_, _-_, _≤_, _<_}
 use native.Mathlib.Nat.{le-of-eq}
 use native.Mathlib.Omega.{arith}
 use lib.ListN.{length, getD, take, drop, length-drop}
-use lib.Seq.{drop-cons, sets, sets-eq, take-all}
+use lib.Seq.{drop-cons, sets, sets-eq, take-all, take-length, paste}
 
 -- the w elements from a place on, one by one
 abbrev pub span : List ℕ → ℕ → ℕ → List ℕ
@@ -26,3 +26,9 @@ stored s place v h k = sets-eq v s place (omega arith) ∙ append-assoc (take pl
 -- all that stands from a place on
 pub take-rest : (n : ℕ) (s : List ℕ) → take (length s - n) (drop n s) ≡ drop n s
 take-rest n s = take-all (length s - n) (drop n s) (le-of-eq (length-drop n s))
+
+-- a copy of all of a list, as what is before it, the list, and what is behind it
+pub pasted : (s : List ℕ) (place : ℕ) (t : List ℕ) → paste s place t (length t) ≡ take place s ++ (t ++ drop (place + length t) s)
+pasted s place t =
+    append-assoc (take place s) (take (length t) t) (drop (place + length t) s)
+    ∙ ap (λ (u : List ℕ). take place s ++ (u ++ drop (place + length t) s)) (take-length t)
