@@ -13,6 +13,9 @@ pub record Buffer : Type 0 where
   pub size : ℕ
   pub room : List ℕ
 
+abbrev pub buffer : ℕ → List ℕ → Buffer
+buffer size room = record { size = size; room = room }
+
 -- the bytes held
 abbrev pub held : Buffer → List ℕ
 held b = take (b .size) (b .room)
@@ -47,18 +50,26 @@ wireLength capacity size = judged capacity size (gives (2 + size))
 abbrev pub over : List ℕ → List ℕ → List ℕ
 over t lent = t ++ drop (length t) lent
 
-unfoldable pub placed : List ℕ → List ℕ → Said (List ℕ)
-placed t lent = needs (leb (length t) (length lent)) (9 ∷ 0 ∷ length t ∷ length lent ∷ []) (gives (over t lent))
+-- the bytes t of a record of that size, written to lent room
+unfoldable pub emitted : ℕ → ℕ → List ℕ → List ℕ → Said (List ℕ)
+emitted capacity size t lent =
+    judged capacity size
+    (needs (leb (length t) (length lent)) (9 ∷ 0 ∷ length t ∷ length lent ∷ [])
+    (gives (over t lent)))
 
-unfoldable pub copied : ℕ → Buffer → List ℕ → Said (List ℕ)
-copied capacity b lent = judged capacity (b .size) (placed (held b) lent)
+abbrev pub copied : ℕ → Buffer → List ℕ → Said (List ℕ)
+copied capacity b lent = emitted capacity (b .size) (held b) lent
 
 -- the TPM2B of a buffer: its size, big-endian, and the bytes held
 abbrev pub wire : Buffer → List ℕ
 wire b = bytes 2 (b .size) ++ held b
 
-unfoldable pub marshalled : ℕ → Buffer → List ℕ → Said (List ℕ)
-marshalled capacity b lent = judged capacity (b .size) (placed (wire b) lent)
+abbrev pub marshalled : ℕ → Buffer → List ℕ → Said (List ℕ)
+marshalled capacity b lent = emitted capacity (b .size) (wire b) lent
+
+-- a call that writes answers how much it wrote
+abbrev pub count : {A : Type 0} → ℕ → Said A → Said ℕ
+count n said = then said λ t. gives n
 
 -- equality is of the bytes held
 abbrev pub sameBytes : List ℕ → List ℕ → Bool

@@ -5,7 +5,7 @@ ghost use Prim.Native.Nat.{_+_, _≤_};
 ghost use lib.ListN.{length, take, drop};
 ghost use Rattle.base.specs.Answer.{saidCount, saidFlag};
 ghost use Rattle.base.specs.Said.{after};
-ghost use Rattle.buffer.specs.Fixed.{copied, equal, grown, marshalled, wireLength};
+ghost use Rattle.buffer.specs.Fixed.{buffer, copied, count, equal, grown, marshalled, wireLength};
 use base::answer::Count;
 use base::answer::Flag;
 use base::error::TpmError;
@@ -17,6 +17,16 @@ fn too_many(capacity: usize, size: usize) -> TpmError
         offset: 0,
         limit: capacity,
         actual: size,
+    }
+}
+
+fn no_room(needed: usize, available: usize) -> TpmError
+    ensures { λ r. ⌜ r ≡ TpmError.BufferOverflow 0 needed available ⌝ }
+{
+    TpmError::BufferOverflow {
+        offset: 0,
+        needed,
+        available,
     }
 }
 
@@ -58,4 +68,51 @@ pub(crate) fn put(s: &mut [u8], place: usize, t: &[u8])
         s[place + i] = t[i];
         i += 1;
     }
+}
+
+// Copies the bytes held to the start of lent room.
+pub(crate) fn copy_out(size: usize, data: &[u8], lent: &mut [u8]) -> Count
+    ensures { λ r. ⌜ saidCount r ≡ count size (copied (length (now («data» .entry))) (buffer size (now («data» .entry))) (now (lent .entry))) ⌝ }
+    ensures { λ r. ⌜ now (lent .exit) ≡ after (now (lent .entry)) (copied (length (now («data» .entry))) (buffer size (now («data» .entry))) (now (lent .entry))) ⌝ }
+{
+    if data.len() < size {
+        return Count::Refused(too_many(data.len(), size));
+    }
+    if lent.len() < size {
+        return Count::Refused(no_room(size, lent.len()));
+    }
+    put(lent, 0, &data[..size]);
+    Count::Is(size)
+}
+
+// Writes the buffer's TPM2B to the start of lent room.
+pub(crate) fn marshal(size: usize, data: &[u8], lent: &mut [u8]) -> Count
+    requires { ⌜ length (now «data») ≤ 65535 ⌝ }
+    ensures { λ r. ⌜ saidCount r ≡ count (2 + size) (marshalled (length (now («data» .entry))) (buffer size (now («data» .entry))) (now (lent .entry))) ⌝ }
+    ensures { λ r. ⌜ now (lent .exit) ≡ after (now (lent .entry)) (marshalled (length (now («data» .entry))) (buffer size (now («data» .entry))) (now (lent .entry))) ⌝ }
+{
+    if data.len() < size {
+        return Count::Refused(too_many(data.len(), size));
+    }
+    if lent.len() < 2 + size {
+        return Count::Refused(no_room(2 + size, lent.len()));
+    }
+    lent[0] = (size / 256) as u8;
+    lent[1] = (size % 256) as u8;
+    put(lent, 2, &data[..size]);
+    Count::Is(2 + size)
+}
+
+// Whether two buffers of one capacity hold the same bytes.
+pub(crate) fn same(size: usize, data: &[u8], other_size: usize, other: &[u8]) -> Flag
+    requires { ⌜ length (now other) ≡ length (now «data») ⌝ }
+    ensures { λ r. ⌜ saidFlag r ≡ equal (length (now («data» .entry))) (buffer size (now («data» .entry))) (buffer «other_size» (now (other .entry))) ⌝ }
+{
+    if data.len() < size {
+        return Flag::Refused(too_many(data.len(), size));
+    }
+    if data.len() < other_size {
+        return Flag::Refused(too_many(data.len(), other_size));
+    }
+    Flag::Is(check::same(&data[..size], &other[..other_size]))
 }

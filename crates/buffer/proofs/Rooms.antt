@@ -1,0 +1,94 @@
+-- The cases of writing a record's bytes to lent room, and of equality, over any capacity.
+-- Assumes nothing.
+use mathlib.Core.Path.{_≡_, refl, sym, _∙_, ap}
+use mathlib.Core.Bool.{Bool, true, false, _&&_, false≢true, and-eq-true-iff}
+use mathlib.Core.List.{List, [], _∷_, _++_, append-assoc}
+use Prim.Native.Nat.{ℕ, zero, suc, _+_, _-_, _/_, _%_, _≤_, _<_}
+use native.Mathlib.Nat.{zero-add}
+use native.Mathlib.Omega.{arith}
+use borrow.Author.Tests.{le-leb, lt-leb, eqb-true, eq-eqb}
+use lib.Dec.{eqb}
+use lib.ListN.{length, take, drop, set, length-append, length-set}
+use lib.Seq.{length-take-le, drop-append-add, drop-drop}
+use Rattle.base.specs.Bytes.{bytes}
+use Rattle.base.specs.Said.{Said, gives, refuses, after}
+use Rattle.base.proofs.Bytes.{length-bytes, two-bytes}
+use Rattle.base.proofs.Lists.{stored}
+use Rattle.buffer.specs.Fixed.{count, emitted, over, equal, buffer, held, wire, sameBytes}
+
+-- t is k bytes where the record is one of the capacity
+module _ (capacity size : ℕ) (t lent : List ℕ) (k n : ℕ) (e : size ≤ capacity → length t ≡ k) where
+  pub emit-too-many : capacity < size
+      → (refuses (8 ∷ 0 ∷ capacity ∷ size ∷ []) ≡ count n (emitted capacity size t lent)) × (lent ≡ after lent (emitted capacity size t lent))
+  unfolding emitted
+  emit-too-many h = (simp (lt-leb size capacity h), simp (lt-leb size capacity h))
+
+  pub emit-no-room : size ≤ capacity → length lent < k
+      → (refuses (9 ∷ 0 ∷ k ∷ length lent ∷ []) ≡ count n (emitted capacity size t lent)) × (lent ≡ after lent (emitted capacity size t lent))
+  unfolding emitted
+  emit-no-room h r =
+      let short : length lent < length t = rw (e h) r in
+      rw (← e h) (simp (le-leb size capacity h, lt-leb (length t) (length lent) short), simp (le-leb size capacity h, lt-leb (length t) (length lent) short))
+
+  pub emit-done : size ≤ capacity → k ≤ length lent
+      → (gives n ≡ count n (emitted capacity size t lent)) × (over t lent ≡ after lent (emitted capacity size t lent))
+  unfolding emitted
+  emit-done h r =
+      let fits : length t ≤ length lent = rw (e h) r in
+      (simp (le-leb size capacity h, le-leb (length t) (length lent) fits), simp (le-leb size capacity h, le-leb (length t) (length lent) fits))
+
+pub length-held : (size : ℕ) (room : List ℕ) → size ≤ length room → length (take size room) ≡ size
+length-held size room h = length-take-le size room h
+
+pub length-wire : (size : ℕ) (room : List ℕ) → size ≤ length room → length (bytes 2 size ++ take size room) ≡ 2 + size
+length-wire size room h = simp (length-append, length-bytes, length-take-le size room h)
+
+-- what a copy to the start leaves
+pub copy-over : (t lent : List ℕ) → take 0 lent ++ (t ++ drop (0 + length t) lent) ≡ over t lent
+copy-over t lent = ap (λ (k : ℕ). t ++ drop k lent) (zero-add (length t))
+
+-- what the two bytes of the size and a copy behind them leave
+pub wire-over : (size : ℕ) (t lent l : List ℕ) → l ≡ set (set lent 0 (size / 256)) 1 (size % 256) → size < 65536 → 2 ≤ length lent
+    → take 2 l ++ (t ++ drop (2 + length t) l) ≡ over (bytes 2 size ++ t) lent
+wire-over size t lent l e h k =
+    let two : l ≡ size / 256 ∷ size % 256 ∷ drop 2 lent = e ∙ stored lent 0 (size / 256 ∷ size % 256 ∷ []) (omega arith) (omega arith) in
+    let behind : 2 + length t ≡ suc (suc (length t)) = omega arith in
+    rw (two, ← two-bytes size h)
+    (ap (λ (r : List ℕ). size / 256 ∷ size % 256 ∷ (t ++ r))
+        (drop-append-add (size / 256 ∷ size % 256 ∷ []) (drop 2 lent) (length t) ∙ drop-drop (length t) 2 lent ∙ ap (λ (m : ℕ). drop m lent) behind))
+
+-- ---- equality
+
+pub same-bytes : (s t : List ℕ) → sameBytes s t ≡ true → s ≡ t
+same-bytes [] [] e = refl
+same-bytes [] (y ∷ t) e = absurd (false≢true e)
+same-bytes (x ∷ s) [] e = absurd (false≢true e)
+same-bytes (x ∷ s) (y ∷ t) e =
+    let both = and-eq-true-iff (eqb x y) (sameBytes s t) .0 e in
+    λ i. eqb-true x y (both .0) i ∷ same-bytes s t (both .1) i
+
+pub bytes-same : (s : List ℕ) → sameBytes s s ≡ true
+bytes-same [] = refl
+bytes-same (x ∷ s) = and-eq-true-iff (eqb x x) (sameBytes s s) .1 (eq-eqb x x refl, bytes-same s)
+
+-- a test that is true exactly for equal bytes is the test of the definition
+pub same-test : (r : Bool) (s t : List ℕ) → (r ≡ true → s ≡ t) × (s ≡ t → r ≡ true) → r ≡ sameBytes s t
+same-test true s t p = rw (← p .0 refl) (sym (bytes-same s))
+same-test false s t p = by (sameBytes s t) refl
+  where
+    by : (b : Bool) → sameBytes s t ≡ b → false ≡ b
+    by true e = p .1 (same-bytes s t e)
+    by false e = refl
+
+module _ (capacity : ℕ) (size : ℕ) (s : List ℕ) (other : ℕ) (t : List ℕ) where
+  pub equal-left : capacity < size → refuses (8 ∷ 0 ∷ capacity ∷ size ∷ []) ≡ equal capacity (buffer size s) (buffer other t)
+  unfolding equal
+  equal-left h = simp (lt-leb size capacity h)
+
+  pub equal-right : size ≤ capacity → capacity < other → refuses (8 ∷ 0 ∷ capacity ∷ other ∷ []) ≡ equal capacity (buffer size s) (buffer other t)
+  unfolding equal
+  equal-right h k = simp (le-leb size capacity h, lt-leb other capacity k)
+
+  pub equal-read : size ≤ capacity → other ≤ capacity → gives (sameBytes (take size s) (take other t)) ≡ equal capacity (buffer size s) (buffer other t)
+  unfolding equal
+  equal-read h k = simp (le-leb size capacity h, le-leb other capacity k)
