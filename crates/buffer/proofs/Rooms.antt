@@ -6,15 +6,16 @@ use mathlib.Core.List.{List, [], _∷_, _++_, append-assoc}
 use Prim.Native.Nat.{ℕ, zero, suc, _+_, _-_, _/_, _%_, _≤_, _<_}
 use native.Mathlib.Nat.{zero-add}
 use native.Mathlib.Omega.{arith}
-use borrow.Author.Tests.{le-leb, lt-leb, eqb-true, eq-eqb}
-use lib.Dec.{eqb}
+use borrow.Author.Tests.{le-leb, lt-leb, leb-true, eqb-true, eq-eqb}
+use lib.Dec.{eqb, leb}
 use lib.ListN.{length, take, drop, set, length-append, length-set}
 use lib.Seq.{length-take-le, drop-append-add, drop-drop}
 use Rattle.base.specs.Bytes.{bytes}
-use Rattle.base.specs.Said.{Said, gives, refuses, after}
+use Rattle.base.specs.Said.{Said, gives, refuses, after, done}
 use Rattle.base.proofs.Bytes.{length-bytes, two-bytes}
+use Rattle.base.proofs.Checks.{needs-gives, gives-injective}
 use Rattle.base.proofs.Lists.{stored}
-use Rattle.buffer.specs.Fixed.{count, emitted, over, equal, buffer, held, wire, sameBytes}
+use Rattle.buffer.specs.Fixed.{Buffer, buffer, count, emitted, over, equal, sameBytes, grown, extended}
 
 -- t is k bytes where the record is one of the capacity
 module _ (capacity size : ℕ) (t lent : List ℕ) (k n : ℕ) (e : size ≤ capacity → length t ≡ k) where
@@ -92,3 +93,31 @@ module _ (capacity : ℕ) (size : ℕ) (s : List ℕ) (other : ℕ) (t : List �
   pub equal-read : size ≤ capacity → other ≤ capacity → gives (sameBytes (take size s) (take other t)) ≡ equal capacity (buffer size s) (buffer other t)
   unfolding equal
   equal-read h k = simp (le-leb size capacity h, le-leb other capacity k)
+
+-- ---- extending
+
+module _ (capacity size count : ℕ) where
+  pub grown-size : {n : ℕ} → gives n ≡ grown capacity size count → (n ≡ size + count) × (n ≤ capacity)
+  unfolding grown
+  grown-size e =
+      let small = needs-gives (leb size capacity) _ _ (sym e) in
+      let fits = needs-gives (leb count (capacity - size)) _ _ (small .1) in
+      let few = leb-true size capacity (small .0) in
+      let room = leb-true count (capacity - size) (fits .0) in
+      let is = gives-injective (fits .1) in
+      (omega arith, omega arith)
+
+module _ (capacity : ℕ) (given : List ℕ) (b : Buffer) where
+  pub extend-refused : {why : List ℕ} → refuses why ≡ grown capacity (b .size) (length given)
+      → (refuses why ≡ done (extended capacity given b)) × (b ≡ after b (extended capacity given b))
+  unfolding extended
+  extend-refused e = (rw (← e), rw (← e))
+
+  -- what `put` left in the room, with the new size, is the buffer extended
+  pub extend-done : (n : ℕ) (room : List ℕ) → gives n ≡ grown capacity (b .size) (length given)
+      → room ≡ take (b .size) (b .room) ++ (given ++ drop (b .size + length given) (b .room))
+      → (gives tt ≡ done (extended capacity given b)) × (buffer n room ≡ after b (extended capacity given b))
+  unfolding extended
+  extend-done n room e p =
+      let size = grown-size capacity (b .size) (length given) e in
+      rw (← e) (refl, λ i. buffer n ((p ∙ ap (λ (k : ℕ). take (b .size) (b .room) ++ (given ++ drop k (b .room))) (sym (size .0))) i))

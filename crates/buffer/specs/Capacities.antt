@@ -1,0 +1,7 @@
+-- The two buffers of the code, as buffers of the definitions.
+-- Assumes nothing: these are definitions.
+use Rattle.buffer.specs.declared.fixed64.TpmBuffer64.{TpmBuffer64}
+use Rattle.buffer.specs.Fixed.{Buffer}
+
+abbrev pub of64 : TpmBuffer64 → Buffer
+of64 b = record { size = b .size; room = b .«data» }
