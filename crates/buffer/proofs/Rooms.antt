@@ -8,14 +8,16 @@ use native.Mathlib.Nat.{zero-add}
 use native.Mathlib.Omega.{arith}
 use borrow.Author.Tests.{le-leb, lt-leb, leb-true, eqb-true, eq-eqb}
 use lib.Dec.{eqb, leb}
-use lib.ListN.{length, take, drop, set, length-append, length-set}
+use lib.ListN.{length, take, drop, set, replicate, length-append, length-drop}
 use lib.Seq.{length-take-le, drop-append-add, drop-drop}
 use Rattle.base.specs.Bytes.{bytes}
 use Rattle.base.specs.Said.{Said, gives, refuses, after, done}
 use Rattle.base.proofs.Bytes.{length-bytes, two-bytes}
 use Rattle.base.proofs.Checks.{needs-gives, gives-injective}
 use Rattle.base.proofs.Lists.{stored}
-use Rattle.buffer.specs.Fixed.{Buffer, buffer, count, emitted, over, equal, sameBytes, grown, extended}
+use Rattle.buffer.specs.Fixed.{Buffer, buffer, new, count, emitted, over, equal, sameBytes, grown, extended, unmarshalled}
+use Rattle.buffer.specs.View.{prefix}
+use Rattle.buffer.proofs.Views.{prefix-fits}
 
 -- t is k bytes where the record is one of the capacity
 module _ (capacity size : ℕ) (t lent : List ℕ) (k n : ℕ) (e : size ≤ capacity → length t ≡ k) where
@@ -121,3 +123,21 @@ module _ (capacity : ℕ) (given : List ℕ) (b : Buffer) where
   extend-done n room e p =
       let size = grown-size capacity (b .size) (length given) e in
       rw (← e) (refl, λ i. buffer n ((p ∙ ap (λ (k : ℕ). take (b .size) (b .room) ++ (given ++ drop k (b .room))) (sym (size .0))) i))
+
+-- ---- reading
+
+module _ (capacity : ℕ) (s : List ℕ) where
+  pub unmarshal-refused : {why : List ℕ} → refuses why ≡ prefix capacity s → new capacity ≡ after (new capacity) (unmarshalled capacity s)
+  unfolding unmarshalled
+  unmarshal-refused e = rw (← e)
+
+  -- what a copy of the data to the start of zeros leaves, with its size, is the buffer read
+  pub unmarshal-done : (n : ℕ) (t room : List ℕ) → gives n ≡ prefix capacity s → t ≡ take (n - 2) (drop 2 s)
+      → room ≡ take 0 (replicate capacity 0) ++ (t ++ drop (0 + length t) (replicate capacity 0))
+      → buffer (n - 2) room ≡ after (new capacity) (unmarshalled capacity s)
+  unfolding unmarshalled
+  unmarshal-done n t room e q p =
+      let fits = prefix-fits capacity s e in
+      let there : n - 2 ≤ length (drop 2 s) = rw length-drop (omega arith) in
+      let size : 0 + length t ≡ n - 2 = zero-add (length t) ∙ ap length q ∙ length-take-le (n - 2) (drop 2 s) there in
+      rw (← e, ← q) (λ i. buffer (n - 2) ((p ∙ ap (λ (k : ℕ). t ++ drop k (replicate capacity 0)) size) i))

@@ -63,14 +63,15 @@ module _ (capacity : ℕ) (s : List ℕ) where
     unfolding prefix
     prefix-read h k = rw (← e) (simp (le-leb n capacity h, le-leb n (length s - 2) k))
 
-  -- a prefix that was read is at least its length field, and stands within the bytes
-  pub prefix-fits : {n : ℕ} → gives n ≡ prefix capacity s → (2 ≤ n) × (n ≤ length s)
+  -- a prefix that was read is at least its length field, and stands within the bytes and the capacity
+  pub prefix-fits : {n : ℕ} → gives n ≡ prefix capacity s → (2 ≤ n) × (n ≤ length s) × (n ≤ 2 + capacity)
   unfolding prefix
   prefix-fits e =
       let size = then-gives (readSize s) _ (sym e) in
       let few = needs-gives (leb (size .0) capacity) _ _ (size .2) in
       let there = needs-gives (leb (size .0) (length s - 2)) _ _ (few .1) in
       let two = sized s (sym (size .1)) in
+      let small = leb-true (size .0) capacity (few .0) in
       let fits = leb-true (size .0) (length s - 2) (there .0) in
       let is = gives-injective (there .1) in
       omega arith

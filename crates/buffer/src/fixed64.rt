@@ -2,10 +2,10 @@
 ghost use mathlib.Core.Path.{_≡_};
 ghost use mathlib.Core.List.{[], _∷_};
 ghost use Prim.Native.Nat.{_+_};
-ghost use lib.ListN.{length};
 ghost use Rattle.base.specs.Answer.{saidCount, saidFlag, saidOutcome};
 ghost use Rattle.base.specs.Said.{after, done};
 ghost use Rattle.buffer.specs.Fixed.{copied, count, equal, extended, marshalled, new, unmarshalled, wireLength};
+ghost use Rattle.buffer.specs.View.{prefix};
 ghost use Rattle.buffer.specs.Capacities.{of64};
 use base::answer::Count;
 use base::answer::Flag;
@@ -69,6 +69,73 @@ impl TpmBuffer64 {
                 Extended64 {
                     answer: Outcome::Done,
                     buffer: self,
+                }
+            }
+        }
+    }
+
+    // A buffer of the given bytes.
+    pub fn from_slice(given: &[u8]) -> Extended64
+        ensures { λ r. ⌜ saidOutcome (r .answer) ≡ done (extended 64 (now (given .entry)) (new 64)) ⌝ }
+        ensures { λ r. ⌜ of64 (r .buffer) ≡ after (new 64) (extended 64 (now (given .entry)) (new 64)) ⌝ }
+    {
+        Self::new().try_extend_from_slice(given)
+    }
+
+    // The bytes held, to the start of lent room.
+    pub fn copy_out(self, lent: &mut [u8]) -> Count
+        ensures { λ r. ⌜ saidCount r ≡ count (self .size) (copied 64 (of64 self) (now (lent .entry))) ⌝ }
+        ensures { λ r. ⌜ now (lent .exit) ≡ after (now (lent .entry)) (copied 64 (of64 self) (now (lent .entry))) ⌝ }
+    {
+        let data = self.data;
+        room::copy_out(self.size as usize, &data, lent)
+    }
+
+    // Whether two buffers hold the same bytes.
+    pub fn eq(self, other: TpmBuffer64) -> Flag
+        ensures { λ r. ⌜ saidFlag r ≡ equal 64 (of64 self) (of64 other) ⌝ }
+    {
+        let data = self.data;
+        let others = other.data;
+        room::same(self.size as usize, &data, other.size as usize, &others)
+    }
+
+    // The bytes that the buffer takes on the wire.
+    pub fn len(self) -> Count
+        ensures { λ r. ⌜ saidCount r ≡ wireLength 64 (self .size) ⌝ }
+    {
+        room::wire_length(64, self.size as usize)
+    }
+
+    // The buffer's TPM2B, to the start of lent room.
+    pub fn marshal(self, lent: &mut [u8]) -> Count
+        ensures { λ r. ⌜ saidCount r ≡ count (2 + self .size) (marshalled 64 (of64 self) (now (lent .entry))) ⌝ }
+        ensures { λ r. ⌜ now (lent .exit) ≡ after (now (lent .entry)) (marshalled 64 (of64 self) (now (lent .entry))) ⌝ }
+    {
+        let data = self.data;
+        room::marshal(self.size as usize, &data, lent)
+    }
+
+    // The buffer of the TPM2B at the start of s.
+    pub fn unmarshal(s: &[u8]) -> Unmarshalled64
+        ensures { λ r. ⌜ saidCount (r .answer) ≡ prefix 64 (now (s .entry)) ⌝ }
+        ensures { λ r. ⌜ of64 (r .buffer) ≡ after (new 64) (unmarshalled 64 (now (s .entry))) ⌝ }
+    {
+        let read = view::validate_prefix(64, s);
+        match read {
+            Count::Refused(e) => Unmarshalled64 {
+                answer: Count::Refused(e),
+                buffer: Self::new(),
+            },
+            Count::Is(n) => {
+                let mut data = [0; 64];
+                room::put(&mut data, 0, &s[2..n]);
+                Unmarshalled64 {
+                    answer: Count::Is(n),
+                    buffer: TpmBuffer64 {
+                        size: (n - 2) as u16,
+                        data,
+                    },
                 }
             }
         }
