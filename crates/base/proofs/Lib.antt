@@ -5,4 +5,5 @@ pub mod Lists
 pub mod Refusals
 pub mod Single
 pub mod Tables
+pub mod Tpm2b
 pub mod Widths

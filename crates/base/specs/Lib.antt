@@ -5,3 +5,4 @@ pub mod Field
 pub mod Members
 pub mod Said
 pub mod Single
+pub mod Tpm2b

@@ -1,2 +1,4 @@
+pub mod Laws
 pub mod Rooms
+pub mod Single
 pub mod Views

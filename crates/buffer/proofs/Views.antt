@@ -21,9 +21,12 @@ module _ (s : List ℕ) where
   unfolding readSize
   size-short h = simp (lt-leb 2 (length s) h)
 
-  pub size-read : 2 ≤ length s → gives (number (getD s 0 0 ∷ getD s 1 0 ∷ [])) ≡ readSize s
+  pub size-is : 2 ≤ length s → gives (sizeOf s) ≡ readSize s
   unfolding readSize
-  size-read h = simp (le-leb 2 (length s) h) (ap (λ (t : List ℕ). gives (number t)) (sym (take-drop-span 2 0 s (omega arith))))
+  size-is h = simp (le-leb 2 (length s) h)
+
+  pub size-read : 2 ≤ length s → gives (number (getD s 0 0 ∷ getD s 1 0 ∷ [])) ≡ readSize s
+  size-read h = ap (λ (t : List ℕ). gives (number t)) (sym (take-drop-span 2 0 s (omega arith))) ∙ size-is h
 
   pub sized : {n : ℕ} → gives n ≡ readSize s → 2 ≤ length s
   unfolding readSize
@@ -75,6 +78,15 @@ module _ (capacity : ℕ) (s : List ℕ) where
       let fits = leb-true (size .0) (length s - 2) (there .0) in
       let is = gives-injective (there .1) in
       omega arith
+
+  pub prefix-is : {n : ℕ} → gives n ≡ prefix capacity s → n ≡ 2 + sizeOf s
+  unfolding prefix readSize
+  prefix-is e =
+      let size = then-gives (readSize s) _ (sym e) in
+      let few = needs-gives (leb (size .0) capacity) _ _ (size .2) in
+      let there = needs-gives (leb (size .0) (length s - 2)) _ _ (few .1) in
+      let two = needs-gives (leb 2 (length s)) _ _ (size .1) in
+      sym (gives-injective (there .1)) ∙ ap (λ (m : ℕ). 2 + m) (sym (gives-injective (two .1)))
 
   pub whole-refused : {why : List ℕ} → refuses why ≡ prefix capacity s → refuses why ≡ whole capacity s
   unfolding whole
