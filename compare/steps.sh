@@ -1,30 +1,36 @@
 # shellcheck shell=sh
-# The steps that run and wrong-builds share; both source this file. Everything that they make is under target/compare.
+# The steps that run and wrong-builds share with ../bench/run; each sources this file. Everything that they make is under
+# target/compare and target/bench.
 set -eu
 here=$(CDPATH='' cd -- "$(dirname -- "$0")" && pwd -P)
 root=$(dirname -- "$here")
-work=$root/target/compare
+compare=$root/compare
+work=$root/target/$(basename -- "$here")
 
 fail() {
-    echo "compare: $*" >&2
+    echo "$(basename -- "$here"): $*" >&2
     exit 2
 }
 
-# ---- the compiler of the driver
+# ---- programs
+
+# Root on Debian gets a package that is missing.
+try_install() { # PACKAGE
+    if [ "$(id -u)" != 0 ] || ! command -v apt-get >/dev/null; then return; fi
+    { apt-get update -qq; apt-get install -y -qq --no-install-recommends "$1"; } >&2 || true
+}
 
 rustc_will_do() {
     "$RUSTC" --version 2>/dev/null | awk '{ split($2, v, "."); new = v[1] > 1 || v[2] >= 85 } END { exit !new }'
 }
 
-# Sets RUSTC to a rustc that knows edition 2024; root on Debian gets one where it is missing.
+# Sets RUSTC to a rustc that knows edition 2024.
 need_rustc() {
     RUSTC=${RUSTC:-rustc}
     export RUSTC
     if rustc_will_do; then return; fi
-    if [ "$(id -u)" = 0 ] && command -v apt-get >/dev/null; then
-        RUSTC=/usr/bin/rustc
-        { apt-get update -qq; apt-get install -y -qq --no-install-recommends rustc-web; } >&2 || true
-    fi
+    try_install rustc-web
+    RUSTC=/usr/bin/rustc
     rustc_will_do || fail "rustc 1.85 or later is missing (Debian has it in the package rustc-web)"
 }
 
@@ -53,14 +59,14 @@ shadow_kit() { # SHADOW
         done
         from=$from/$part to=$to/$part
     done
-    ln -s "$here/native-clang" "$to"
+    ln -s "$compare/native-clang" "$to"
     ln -s "$(dirname "$from")" "$(dirname "$to")/kit"
 }
 
 # Proves crate capi of the repository in DIR and writes DIR/target/staticlib/libcapi.a for this machine; DIR/build.log
 # has what was said. The kit writes libraries for x86-64 alone, and they cannot be linked on Arm. There the module that
 # the kit proved is compiled for Arm instead: what is compared is the same proved module, compiled for the machine at
-# hand. It stays under target/compare, apart from the library for x86-64.
+# hand. It stays in DIR, apart from the repository's own library for x86-64.
 build_library() { # DIR
     case $(uname -m) in
     x86_64) (cd "$1" && rt staticlib capi) ;;
@@ -69,24 +75,36 @@ build_library() { # DIR
     esac >"$1/build.log" 2>&1
 }
 
-# ---- the driver
+# Copies, proves and compiles what is to be measured or compared.
+make_library() { # DIR
+    copy_crates "$1"
+    if build_library "$1"; then return; fi
+    cat "$1/build.log"
+    fail "there is no proved library"
+}
+
+# ---- what is linked with it
 
 # Compiles the crate as a judge, where its sources are at hand, and sets $oracle to what came of it.
 build_oracle() {
     oracle=''
     status=0
-    said=$("$here/oracle/build" "$work/oracle" 2>&1) || status=$?
+    said=$("$compare/oracle/build" "$work/oracle" 2>&1) || status=$?
     case $status in
     0) oracle=$work/oracle/libtpm2_protocol.rlib ;;
     3) said="the comparison with tpm2-protocol is skipped: $said" ;;
     *) fail "$said" ;;
     esac
-    echo "compare: $said"
+    echo "$(basename -- "$here"): $said"
 }
 
-# Links the driver with the library of the repository in DIR, to DIR/driver.
-build_driver() { # DIR
-    set -- -L "native=$1/target/staticlib" -l static=capi -o "$1/driver"
+# Links a Rust program with the library of the repository in DIR, and with the crate where there is one.
+build_program() { # DIR SOURCE OUT
+    set -- "$2" -o "$3" -L "native=$1/target/staticlib" -l static=capi
     [ -z "$oracle" ] || set -- "$@" --cfg oracle --extern "tpm2_protocol=$oracle"
-    "$RUSTC" --edition 2024 -C opt-level=3 --check-cfg 'cfg(oracle)' "$@" "$here/src/main.rs"
+    "$RUSTC" --edition 2024 -C opt-level=3 --check-cfg 'cfg(oracle)' "$@"
+}
+
+build_driver() { # DIR
+    build_program "$1" "$compare/src/main.rs" "$1/driver"
 }

@@ -1,16 +1,12 @@
 //! What a call answers: the number it returns, and everything that was lent to it as it is afterwards.
 //!
 //! A call of ours and a judge each start from the same preset answer and change it; then the two are compared whole. So
-//! a number that should have been left alone, or a byte beside the slice, counts as much as the answer itself. The room
+//! a number that should have been left alone, or a byte beside a slice, counts as much as the answer itself. The room
 //! is kept from call to call: once it is large enough, nothing is allocated.
 
 use crate::calls::Out;
 use std::fmt;
 use std::ops::Range;
-
-/// Bytes on each side of the lent slice that no call may touch.
-const GUARD: usize = 64;
-const GUARD_BYTE: u8 = 0xA5;
 
 /// What the lent array holds before a call: numbers that no answer has, each its own.
 const UNTOUCHED: Out = {
@@ -23,29 +19,20 @@ const UNTOUCHED: Out = {
     out
 };
 
-#[derive(Default, PartialEq, Eq)]
-pub struct Answer {
+/// The number that a call returns, and the lent array.
+#[derive(Clone, Copy, PartialEq, Eq)]
+pub struct Said {
     number: u32,
     out: Out,
-    /// A guard, the lent bytes, a guard.
-    room: Vec<u8>,
 }
 
-impl Answer {
-    /// The state before a call that is lent these bytes.
-    pub fn preset(&mut self, bytes: &[u8]) {
-        self.number = u32::MAX;
-        self.out = UNTOUCHED;
-        self.room.clear();
-        self.room.resize(GUARD, GUARD_BYTE);
-        self.room.extend_from_slice(bytes);
-        self.room.resize(GUARD + bytes.len() + GUARD, GUARD_BYTE);
-    }
+impl Said {
+    /// The state before a call.
+    pub const NOTHING: Self = Self { number: u32::MAX, out: UNTOUCHED };
 
-    /// Makes a call on what is lent, and keeps the number that it returns.
-    pub fn call(&mut self, call: impl FnOnce(&mut [u8], &mut Out) -> u32) {
-        let lent = self.lent();
-        self.number = call(&mut self.room[lent], &mut self.out);
+    /// Makes a call on the array, and keeps the number that it returns.
+    pub fn call(&mut self, call: impl FnOnce(&mut Out) -> u32) {
+        self.number = call(&mut self.out);
     }
 
     /// A judge's answer, with the numbers that it reports.
@@ -68,36 +55,104 @@ impl Answer {
         let changed = |(now, before): (&u64, &u64)| (now != before).then_some(*now);
         self.out.iter().zip(&UNTOUCHED).map_while(changed)
     }
-
-    pub fn bytes(&self) -> &[u8] {
-        &self.room[self.lent()]
-    }
-
-    pub fn bytes_mut(&mut self) -> &mut [u8] {
-        let lent = self.lent();
-        &mut self.room[lent]
-    }
-
-    fn lent(&self) -> Range<usize> {
-        GUARD..self.room.len() - GUARD
-    }
-
-    fn guards_hold(&self) -> bool {
-        let Range { start, end } = self.lent();
-        self.room[..start].iter().chain(&self.room[end..]).all(|&byte| byte == GUARD_BYTE)
-    }
 }
 
-/// The number, the array (a dot where it is untouched), the bytes.
-impl fmt::Display for Answer {
+/// The number, and the array with a dot where it is untouched.
+impl fmt::Display for Said {
     fn fmt(&self, f: &mut fmt::Formatter) -> fmt::Result {
         write!(f, "{} [", self.number)?;
         for (i, (now, before)) in self.out.iter().zip(&UNTOUCHED).enumerate() {
             let gap = if i == 0 { "" } else { " " };
             if now == before { write!(f, "{gap}.")? } else { write!(f, "{gap}{now}")? }
         }
-        write!(f, "] ; {}", Hex(self.bytes()))?;
+        write!(f, "]")
+    }
+}
+
+/// Bytes on each side of a lent slice that no call may touch.
+const GUARD: usize = 64;
+const GUARD_BYTE: u8 = 0xA5;
+
+/// A lent slice between two guards.
+#[derive(Default, PartialEq, Eq)]
+struct Room(Vec<u8>);
+
+impl Room {
+    fn preset(&mut self, bytes: &[u8]) {
+        self.0.clear();
+        self.0.resize(GUARD, GUARD_BYTE);
+        self.0.extend_from_slice(bytes);
+        self.0.resize(GUARD + bytes.len() + GUARD, GUARD_BYTE);
+    }
+
+    fn lent(&self) -> Range<usize> {
+        GUARD..self.0.len() - GUARD
+    }
+
+    fn bytes(&self) -> &[u8] {
+        &self.0[self.lent()]
+    }
+
+    fn bytes_mut(&mut self) -> &mut [u8] {
+        let lent = self.lent();
+        &mut self.0[lent]
+    }
+
+    fn guards_hold(&self) -> bool {
+        let Range { start, end } = self.lent();
+        self.0[..start].iter().chain(&self.0[end..]).all(|&byte| byte == GUARD_BYTE)
+    }
+}
+
+impl fmt::Display for Room {
+    fn fmt(&self, f: &mut fmt::Formatter) -> fmt::Result {
+        write!(f, "{}", Hex(self.bytes()))?;
         if self.guards_hold() { Ok(()) } else { write!(f, ", and bytes beside them are changed") }
+    }
+}
+
+#[derive(PartialEq, Eq)]
+pub struct Answer {
+    pub said: Said,
+    /// One for each slice that is lent.
+    rooms: Vec<Room>,
+}
+
+impl Answer {
+    pub fn new() -> Self {
+        Self { said: Said::NOTHING, rooms: Vec::new() }
+    }
+
+    /// The state before a call that is lent these slices.
+    pub fn preset<const N: usize>(&mut self, lent: [&[u8]; N]) {
+        self.said = Said::NOTHING;
+        self.rooms.resize_with(N, Room::default);
+        for (room, bytes) in self.rooms.iter_mut().zip(lent) {
+            room.preset(bytes);
+        }
+    }
+
+    /// Makes a call on what is lent, and keeps the number that it returns.
+    pub fn call<const N: usize>(&mut self, call: impl FnOnce([&mut [u8]; N], &mut Out) -> u32) {
+        let rooms: &mut [Room; N] = self.rooms.as_mut_slice().try_into().expect("a call takes all that is lent");
+        self.said.call(|out| call(rooms.each_mut().map(Room::bytes_mut), out));
+    }
+
+    /// The bytes of a lent slice, counted from 0.
+    pub fn bytes(&self, which: usize) -> &[u8] {
+        self.rooms[which].bytes()
+    }
+
+    pub fn bytes_mut(&mut self, which: usize) -> &mut [u8] {
+        self.rooms[which].bytes_mut()
+    }
+}
+
+/// What was said, then the lent slices.
+impl fmt::Display for Answer {
+    fn fmt(&self, f: &mut fmt::Formatter) -> fmt::Result {
+        write!(f, "{}", self.said)?;
+        self.rooms.iter().try_for_each(|room| write!(f, " ; {room}"))
     }
 }
 

@@ -11,6 +11,12 @@ unsafe extern "C" {
     fn skein_read_u32(s: *const u8, len: usize, place: usize, out: &mut Out) -> u32;
     fn skein_write_u16(s: *mut u8, len: usize, place: usize, n: u16, out: &mut Out) -> u32;
     fn skein_write_u32(s: *mut u8, len: usize, place: usize, n: u32, out: &mut Out) -> u32;
+
+    // these are lent nothing but the array
+    #[link_name = "skein_rc_read"]
+    pub safe fn rc_read(code: u32, out: &mut Out) -> u32;
+    #[link_name = "skein_rc_value"]
+    pub safe fn rc_value(kind: u32, base: u32, index: u8, out: &mut Out) -> u32;
 }
 
 pub fn read_u16(s: &[u8], place: usize, out: &mut Out) -> u32 {

@@ -2,7 +2,7 @@
 
 use crate::answer::{Answer, Hex};
 use crate::calls::{self, Out};
-use crate::judge::{Case, Judge, Tally};
+use crate::judge::{self, Case, Judge, Tally};
 use crate::random::Random;
 use crate::shrink;
 use std::fmt;
@@ -52,12 +52,12 @@ impl Case for Field {
         Judge { name: "be_bytes", says: by_rust },
     ];
 
-    fn bytes(&self) -> &[u8] {
-        &self.bytes
+    fn preset(&self, answer: &mut Answer) {
+        answer.preset([&self.bytes]);
     }
 
     fn ours(&self, answer: &mut Answer) {
-        answer.call(|s, out| (self.call.ours)(s, self.place, self.n, out));
+        answer.call(|[s], out| (self.call.ours)(s, self.place, self.n, out));
     }
 
     fn simpler(&self) -> impl Iterator<Item = Self> {
@@ -74,14 +74,14 @@ fn by_rust(case: &Field, answer: &mut Answer) -> bool {
     let left = case.bytes.len().saturating_sub(case.place);
     if left < width {
         let number = if writes { 9 } else { 1 };
-        answer.refuses(number, &[case.place as u64, width as u64, left as u64]);
+        answer.said.refuses(number, &[case.place as u64, width as u64, left as u64]);
     } else if writes {
-        put(answer.bytes_mut(), case.place, width, case.n);
-        answer.gives(&[]);
+        put(answer.bytes_mut(0), case.place, width, case.n);
+        answer.said.gives(&[]);
     } else {
         let mut number = [0; 4];
         number[4 - width..].copy_from_slice(&case.bytes[case.place..case.place + width]);
-        answer.gives(&[u32::from_be_bytes(number).into()]);
+        answer.said.gives(&[u32::from_be_bytes(number).into()]);
     }
     true
 }
@@ -96,7 +96,7 @@ fn by_crate(case: &Field, answer: &mut Answer) -> bool {
     use tpm2_protocol::basic::{TpmUint16, TpmUint32};
     use tpm2_protocol::{TpmMarshal, TpmUnmarshal, TpmWriter};
 
-    let Some(rest) = answer.bytes_mut().get_mut(case.place..) else {
+    let Some(rest) = answer.bytes_mut(0).get_mut(case.place..) else {
         return false;
     };
     let said = match (case.call.writes, case.call.width) {
@@ -106,8 +106,8 @@ fn by_crate(case: &Field, answer: &mut Answer) -> bool {
         (true, _) => TpmUint32::new(case.n).marshal(&mut TpmWriter::new(rest)).map(|()| None),
     };
     match said {
-        Ok(value) => answer.gives(value.as_slice()),
-        Err(error) => crate::oracle::refuses(answer, error.rebase(case.place)),
+        Ok(value) => answer.said.gives(value.as_slice()),
+        Err(error) => answer.said.call(|out| crate::oracle::refuse(error.rebase(case.place), out)),
     }
     true
 }
@@ -188,25 +188,16 @@ pub fn run(random: &mut Random) -> Vec<Tally> {
     CALLS.iter().map(check).collect()
 }
 
-/// Prints some calls of every kind with Rust's own answers, one a line, for a replay on machines without Rust:
-/// `NAME BYTES PLACE N = NUMBER VALUES`, and for a write ` ; LATER-BYTES`.
+/// Prints some calls of every kind, for the fixed list.
 pub fn list(random: &mut Random) {
     for call in &CALLS {
         let numbers = numbers(call, random);
         for len in (0..=5).chain([16]) {
             let far = [1 << 32, 1 << 63, usize::MAX - 1, usize::MAX];
             for place in (0..=len + 1).chain(far) {
-                list_one(&Field { call, bytes: random.bytes(len), place, n: random.pick(&numbers) });
+                let case = Field { call, bytes: random.bytes(len), place, n: random.pick(&numbers) };
+                judge::list(&case, call.writes);
             }
         }
     }
-}
-
-fn list_one(case: &Field) {
-    let mut answer = Answer::default();
-    answer.preset(&case.bytes);
-    by_rust(case, &mut answer);
-    let values: String = answer.values().map(|value| format!(" {value}")).collect();
-    let later = if case.call.writes { format!(" ; {}", Hex(answer.bytes())) } else { String::new() };
-    println!("{case} = {}{values}{later}", answer.number());
 }

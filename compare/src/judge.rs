@@ -4,7 +4,7 @@
 //! A new call needs a `Case`; a suite keeps one tally a call and changes one case in place, so that nothing is allocated
 //! between two calls that agree.
 
-use crate::answer::Answer;
+use crate::answer::{Answer, Hex};
 use std::fmt::Display;
 
 /// A call with its input. It is displayed as on the fixed list: the call's name, then what it is given.
@@ -12,8 +12,8 @@ pub trait Case: Clone + Display + 'static {
     /// Who is asked about this kind of call.
     const JUDGES: &'static [Judge<Self>];
 
-    /// The bytes that are lent.
-    fn bytes(&self) -> &[u8];
+    /// Brings `answer` to the state before the call, with all that is lent.
+    fn preset(&self, answer: &mut Answer);
 
     /// Makes our call on what `answer` lends.
     fn ours(&self, answer: &mut Answer);
@@ -30,7 +30,7 @@ pub struct Judge<C> {
 }
 
 /// Mismatches of one call that are printed; the rest are only counted.
-const PRINTED: u64 = 5;
+pub const PRINTED: u64 = 5;
 
 /// The count of one call.
 pub struct Tally {
@@ -50,8 +50,8 @@ impl Tally {
             calls: 0,
             mismatches: 0,
             spoke: C::JUDGES.iter().map(|judge| (judge.name, 0)).collect(),
-            ours: Answer::default(),
-            theirs: Answer::default(),
+            ours: Answer::new(),
+            theirs: Answer::new(),
         }
     }
 
@@ -79,13 +79,26 @@ impl Tally {
         }
     }
 
+    /// Adds calls that the suite itself has made and held to the first judge.
+    pub fn add(&mut self, calls: u64, mismatches: u64) {
+        self.calls += calls;
+        self.mismatches += mismatches;
+        self.spoke[0].1 += calls;
+    }
+
+    /// Counts a mismatch that shows in the calls as a whole, and in none of them alone.
+    pub fn differs_in_all(&mut self, how: &str) {
+        self.mismatches += 1;
+        println!("mismatch: {}: {how}", self.name);
+    }
+
     fn ask_ours<C: Case>(&mut self, case: &C) {
-        self.ours.preset(case.bytes());
+        case.preset(&mut self.ours);
         case.ours(&mut self.ours);
     }
 
     fn ask<C: Case>(&mut self, judge: &Judge<C>, case: &C) -> bool {
-        self.theirs.preset(case.bytes());
+        case.preset(&mut self.theirs);
         (judge.says)(case, &mut self.theirs)
     }
 
@@ -134,4 +147,20 @@ impl Display for Tally {
         write!(f, "{}: {} calls, {} mismatches", self.name, self.calls, self.mismatches)?;
         self.spoke.iter().try_for_each(|(judge, times)| write!(f, ", {times} judged by {judge}"))
     }
+}
+
+/// Prints a case with the answer of its first judge that speaks, and the later bytes of its first slice if it writes:
+/// one line of the fixed list. Where no judge is at hand there is no line.
+pub fn list<C: Case>(case: &C, writes: bool) {
+    let mut answer = Answer::new();
+    let speaks = |judge: &Judge<C>| {
+        case.preset(&mut answer);
+        (judge.says)(case, &mut answer)
+    };
+    if !C::JUDGES.iter().any(speaks) {
+        return;
+    }
+    let values: String = answer.said.values().map(|value| format!(" {value}")).collect();
+    let later = if writes { format!(" ; {}", Hex(answer.bytes(0))) } else { String::new() };
+    println!("{case} = {}{values}{later}", answer.said.number());
 }

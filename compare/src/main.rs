@@ -1,8 +1,16 @@
 //! Compares the calls of the proved library with Rust: with its own conversions, and, compiled with `--cfg oracle`,
 //! with the crate tpm2-protocol.
 //!
-//! usage: driver [--seed N] [SUITE..]     compares; the status is 1 if anything differs
-//!        driver --list                   prints the fixed list of field calls with Rust's answers
+//! usage: driver [--seed N] [--thin] [SUITE..]
+//!                                        compares; the status is 1 if anything differs. Thinned, it leaves out most of
+//!                                        the calls where there are billions: for a library known to be wrong, or one
+//!                                        that an emulator runs
+//!        driver --list                   prints the fixed list of calls with the judges' answers, one a line, for a
+//!                                        replay on machines without Rust: `NAME BYTES PLACE N = NUMBER VALUES`, and
+//!                                        for a call that writes ` ; LATER-BYTES`
+
+// without the crate, what only its comparison takes lies idle
+#![cfg_attr(not(oracle), allow(dead_code))]
 
 mod answer;
 mod calls;
@@ -11,6 +19,7 @@ mod judge;
 #[cfg(oracle)]
 mod oracle;
 mod random;
+mod rc;
 mod shrink;
 
 use judge::Tally;
@@ -19,25 +28,32 @@ use std::process::ExitCode;
 
 struct Suite {
     name: &'static str,
-    run: fn(&mut Random) -> Vec<Tally>,
+    /// Compares, thinned or not.
+    run: fn(&mut Random, bool) -> Vec<Tally>,
+    /// Prints the suite's part of the fixed list.
+    list: fn(&mut Random),
 }
 
-static SUITES: [Suite; 1] = [Suite { name: "field", run: field::run }];
+static SUITES: [Suite; 2] = [
+    Suite { name: "field", run: |random, _| field::run(random), list: field::list },
+    Suite { name: "rc", run: rc::run, list: rc::list },
+];
 
 /// The seed of a run that names none, and of the fixed list.
 const SEED: u64 = 1;
 
 enum Task {
-    Compare { seed: u64, suites: Vec<&'static Suite> },
+    Compare { seed: u64, thin: bool, suites: Vec<&'static Suite> },
     List,
 }
 
 fn task(mut words: impl Iterator<Item = String>) -> Result<Task, String> {
-    let mut seed = SEED;
+    let (mut seed, mut thin) = (SEED, false);
     let mut suites = Vec::new();
     while let Some(word) = words.next() {
         match word.as_str() {
             "--list" => return Ok(Task::List),
+            "--thin" => thin = true,
             "--seed" => {
                 let number = words.next().unwrap_or_default();
                 seed = number.parse().map_err(|_| format!("--seed takes a number, not '{number}'"))?;
@@ -51,15 +67,15 @@ fn task(mut words: impl Iterator<Item = String>) -> Result<Task, String> {
     if suites.is_empty() {
         suites.extend(&SUITES);
     }
-    Ok(Task::Compare { seed, suites })
+    Ok(Task::Compare { seed, thin, suites })
 }
 
 /// Each suite starts from the seed, so that it repeats alone as it ran among others.
-fn compare(seed: u64, suites: &[&Suite]) -> ExitCode {
-    println!("compare: seed {seed}");
+fn compare(seed: u64, thin: bool, suites: &[&Suite]) -> ExitCode {
+    println!("compare: seed {seed}{}", if thin { ", thinned" } else { "" });
     let (mut calls, mut mismatches) = (0, 0);
     for suite in suites {
-        for tally in (suite.run)(&mut Random::new(seed)) {
+        for tally in (suite.run)(&mut Random::new(seed), thin) {
             println!("{}: {tally}", suite.name);
             calls += tally.calls();
             mismatches += tally.mismatches();
@@ -71,9 +87,9 @@ fn compare(seed: u64, suites: &[&Suite]) -> ExitCode {
 
 fn main() -> ExitCode {
     match task(std::env::args().skip(1)) {
-        Ok(Task::Compare { seed, suites }) => compare(seed, &suites),
+        Ok(Task::Compare { seed, thin, suites }) => compare(seed, thin, &suites),
         Ok(Task::List) => {
-            field::list(&mut Random::new(SEED));
+            SUITES.iter().for_each(|suite| (suite.list)(&mut Random::new(SEED)));
             ExitCode::SUCCESS
         }
         Err(fault) => {

@@ -1,19 +1,24 @@
 -- From what a callee said to what is reported to C, for every call.
 -- Assumes nothing.
-use mathlib.Core.Path.{_≡_, refl, sym, _∙_, ap}
+use mathlib.Core.Path.{_≡_, _∙_, ap, subst}
 use mathlib.Core.List.{List, [], _∷_}
 use Prim.Native.Nat.{ℕ}
-use Rattle.base.specs.Said.{Said, gives, refuses, done}
-use Rattle.capi.specs.Out.{first, fields, number, values, none, over, Reports}
+use Rattle.base.specs.Said.{Said, gives, refuses}
+use Rattle.capi.specs.Out.{first, fields, number, values, over, Reports}
 
 module _ {A : Type 0} (of : A → List ℕ) (said : Said A) (old : List ℕ) where
   pub answered : (a : A) → gives a ≡ said → Reports of said old (over (of a) old) 0
   answered a e = record { status = ap number e; array = ap (λ (t : Said A). over (values of t) old) e }
 
+  -- the same where another function stored the numbers
+  pub answered-by : (a : A) (r : ℕ) (later : List ℕ) → gives a ≡ said → (r ≡ 0) × (later ≡ over (of a) old) → Reports of said old later r
+  answered-by a r later e p =
+      let told = answered a e in
+      record { status = p .0 ∙ told .status; array = p .1 ∙ told .array }
+
   pub refused : (why : List ℕ) (r : ℕ) (later : List ℕ) → refuses why ≡ said → (r ≡ first why) × (later ≡ over (fields why) old) → Reports of said old later r
   refused why r later e p = record { status = p .0 ∙ ap number e; array = p .1 ∙ ap (λ (t : Said A). over (values of t) old) e }
 
--- a write reports no number of its own
-pub written : {A : Type 0} (said : Said A) (old later : List ℕ) (r : ℕ) → Reports none (done said) old later r → Reports none said old later r
-written (gives a) old later r p = record { status = p .status; array = p .array }
-written (refuses why) old later r p = record { status = p .status; array = p .array }
+-- what was reported of an answer is reported of what the answer says
+pub as-said : {A : Type 0} {of : A → List ℕ} {x y : Said A} {old later : List ℕ} {r : ℕ} → x ≡ y → Reports of x old later r → Reports of y old later r
+as-said {of = of} {old = old} {later = later} {r = r} e p = subst (λ (t : Said _). Reports of t old later r) e p

@@ -2,8 +2,10 @@
 -- Assumes nothing: these are definitions.
 use Prim.Native.Nat.{ℕ}
 use mathlib.Core.Path.{_≡_}
+use mathlib.Core.Bool.{Bool, cond}
 use mathlib.Core.List.{List, [], _∷_}
 use lib.Seq.{sets}
+use Rattle.base.specs.Answer.{Part}
 use Rattle.base.specs.Said.{Said, gives, refuses}
 
 -- a refusal is its number, then its fields
@@ -26,6 +28,13 @@ values of (refuses why) = fields why
 
 abbrev pub one : ℕ → List ℕ
 one n = n ∷ []
+
+-- a truth is 1 or 0; a part is its start and its end
+abbrev pub truth : Bool → List ℕ
+truth b = cond b 1 0 ∷ []
+
+abbrev pub ends : Part → List ℕ
+ends p = p .from ∷ p .to ∷ []
 
 abbrev pub none : {A : Type 0} → A → List ℕ
 none a = []

@@ -2,7 +2,14 @@
 ghost use mathlib.Core.Path.{_≡_};
 ghost use mathlib.Core.List.{[], _∷_};
 ghost use Rattle.base.specs.Error.{numbered};
-ghost use Rattle.capi.specs.Out.{over, first, fields};
+ghost use Rattle.base.specs.Answer.{saidCount, saidFlag, saidNumber16, saidNumber32, saidOutcome, saidRange};
+ghost use Rattle.capi.specs.Out.{Reports, ends, fields, first, none, one, over, truth};
+use base::answer::Count;
+use base::answer::Flag;
+use base::answer::Number16;
+use base::answer::Number32;
+use base::answer::Outcome;
+use base::answer::Range;
 use base::error::TpmError;
 
 // The lent array that takes an answer's numbers or a refusal's fields.
@@ -58,5 +65,72 @@ pub(crate) fn refuse(e: TpmError, out: &mut Numbers) -> u32
             needed,
             available,
         } => three(9, offset, needed, available, out),
+    }
+}
+
+// The answers that calls share.
+pub(crate) fn outcome(a: Outcome, out: &mut Numbers) -> u32
+    ensures { λ r. ⌜ Reports none (saidOutcome a) (now (out .entry)) (now (out .exit)) r ⌝ }
+{
+    match a {
+        Outcome::Done => 0,
+        Outcome::Refused(e) => refuse(e, out),
+    }
+}
+
+pub(crate) fn number16(a: Number16, out: &mut Numbers) -> u32
+    ensures { λ r. ⌜ Reports one (saidNumber16 a) (now (out .entry)) (now (out .exit)) r ⌝ }
+{
+    match a {
+        Number16::Is(n) => {
+            out[0] = n as u64;
+            0
+        }
+        Number16::Refused(e) => refuse(e, out),
+    }
+}
+
+pub(crate) fn number32(a: Number32, out: &mut Numbers) -> u32
+    ensures { λ r. ⌜ Reports one (saidNumber32 a) (now (out .entry)) (now (out .exit)) r ⌝ }
+{
+    match a {
+        Number32::Is(n) => {
+            out[0] = n as u64;
+            0
+        }
+        Number32::Refused(e) => refuse(e, out),
+    }
+}
+
+pub(crate) fn count(a: Count, out: &mut Numbers) -> u32
+    ensures { λ r. ⌜ Reports one (saidCount a) (now (out .entry)) (now (out .exit)) r ⌝ }
+{
+    match a {
+        Count::Is(n) => {
+            out[0] = n as u64;
+            0
+        }
+        Count::Refused(e) => refuse(e, out),
+    }
+}
+
+pub(crate) fn flag(a: Flag, out: &mut Numbers) -> u32
+    ensures { λ r. ⌜ Reports truth (saidFlag a) (now (out .entry)) (now (out .exit)) r ⌝ }
+{
+    match a {
+        Flag::Is(n) => {
+            out[0] = n as u64;
+            0
+        }
+        Flag::Refused(e) => refuse(e, out),
+    }
+}
+
+pub(crate) fn range(a: Range, out: &mut Numbers) -> u32
+    ensures { λ r. ⌜ Reports ends (saidRange a) (now (out .entry)) (now (out .exit)) r ⌝ }
+{
+    match a {
+        Range::Is { from, to } => two(0, from, to as u64, out),
+        Range::Refused(e) => refuse(e, out),
     }
 }
