@@ -1,11 +1,11 @@
 -- An order of checks that gives an answer has passed each check: how a definition made of needs, either and then is taken apart.
 -- Assumes nothing.
-use mathlib.Core.Path.{_≡_, refl, subst, sym}
+use mathlib.Core.Path.{_≡_, refl, subst, sym, ap}
 use mathlib.Core.Bool.{Bool, true, false}
 use mathlib.Core.List.{List}
 use mathlib.Core.Logic.{_⊎_, inl, inr}
 use Prim.Native.Nat.{ℕ}
-use Rattle.base.specs.Said.{Said, gives, refuses, either, needs, then}
+use Rattle.base.specs.Said.{Said, gives, refuses, either, needs, then, done}
 
 abbrev isGiven : {A : Type 0} → Said A → Type 0
 isGiven (gives a) = Unit {0}
@@ -33,3 +33,12 @@ module _ {A : Type 0} where
   pub then-gives : {B : Type 0} (s : Said A) (f : A → Said B) {b : B} → then s f ≡ gives b → (a : A) × (s ≡ gives a) × (f a ≡ gives b)
   then-gives (gives a) f e = (a, refl, e)
   then-gives (refuses why) f e = absurd (gives≢refuses (sym e))
+
+  -- the answer of a call that was done, and of one that was refused
+  pub done-gives : (s : Said A) → gives tt ≡ done s → (a : A) × (gives a ≡ s)
+  done-gives (gives a) e = (a, refl)
+  done-gives (refuses why) e = absurd (gives≢refuses e)
+
+  pub done-refuses : (s : Said A) {why : List ℕ} → refuses why ≡ done s → refuses why ≡ s
+  done-refuses (gives a) e = absurd (gives≢refuses (sym e))
+  done-refuses (refuses why) e = ap refuses (refuses-injective e)

@@ -7,8 +7,8 @@ use Prim.Native.Nat.{ℕ, _+_, _-_, _≤_, _<_}
 use native.Mathlib.Omega.{arith}
 use borrow.Author.Tests.{le-leb, lt-leb, leb-true}
 use lib.Dec.{eqb, leb}
-use lib.ListN.{length, getD, take, drop}
-use lib.Seq.{take-all}
+use lib.ListN.{length, getD, take, drop, length-drop}
+use lib.Seq.{take-all, length-take-le}
 use Rattle.base.specs.Answer.{Part}
 use Rattle.base.specs.Bytes.{number}
 use Rattle.base.specs.Said.{Said, gives, refuses, done}
@@ -78,6 +78,15 @@ module _ (capacity : ℕ) (s : List ℕ) where
       let fits = leb-true (size .0) (length s - 2) (there .0) in
       let is = gives-injective (there .1) in
       omega arith
+
+  -- the part read is that long, and with the tail it is everything
+  pub view-length : {n : ℕ} → gives n ≡ prefix capacity s → length (viewPart (prefix capacity s) s) ≡ n
+  view-length {n} e = rw (← e) (length-take-le n s (prefix-fits e .1))
+
+  pub view-and-tail : {n : ℕ} → gives n ≡ prefix capacity s → length (viewPart (prefix capacity s) s) + length (tailPart (prefix capacity s) s) ≡ length s
+  view-and-tail {n} e =
+      let fits = prefix-fits e in
+      rw (← e) (rw (length-take-le n s (fits .1), length-drop) (omega arith))
 
   pub prefix-is : {n : ℕ} → gives n ≡ prefix capacity s → n ≡ 2 + sizeOf s
   unfolding prefix readSize

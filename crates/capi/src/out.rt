@@ -25,7 +25,7 @@ fn three(number: u32, a: usize, b: usize, c: usize, out: &mut Numbers) -> u32
     number
 }
 
-fn two(number: u32, a: usize, b: u64, out: &mut Numbers) -> u32
+pub(crate) fn two(number: u32, a: usize, b: u64, out: &mut Numbers) -> u32
     ensures { λ r. ⌜ r ≡ number ⌝ }
     ensures { λ r. ⌜ now (out .exit) ≡ over (a ∷ b ∷ []) (now (out .entry)) ⌝ }
 {
