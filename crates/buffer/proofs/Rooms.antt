@@ -15,7 +15,7 @@ use Rattle.base.specs.Said.{Said, gives, refuses, after, done}
 use Rattle.base.proofs.Bytes.{length-bytes, two-bytes}
 use Rattle.base.proofs.Checks.{needs-gives, gives-injective}
 use Rattle.base.proofs.Lists.{stored}
-use Rattle.buffer.specs.Fixed.{Buffer, buffer, new, count, emitted, over, equal, sameBytes, grown, extended, unmarshalled}
+use Rattle.buffer.specs.Fixed.{Buffer, buffer, put, new, count, emitted, over, equal, sameBytes, grown, extended, unmarshalled}
 use Rattle.buffer.specs.View.{prefix}
 use Rattle.buffer.proofs.Views.{prefix-fits}
 
@@ -127,9 +127,16 @@ module _ (capacity : ℕ) (given : List ℕ) (b : Buffer) where
 -- ---- reading
 
 module _ (capacity : ℕ) (s : List ℕ) where
-  pub unmarshal-refused : {why : List ℕ} → refuses why ≡ prefix capacity s → new capacity ≡ after (new capacity) (unmarshalled capacity s)
+  pub read-refused : {why : List ℕ} → refuses why ≡ prefix capacity s → refuses why ≡ unmarshalled capacity s
   unfolding unmarshalled
-  unmarshal-refused e = rw (← e)
+  read-refused e = rw (← e)
+
+  pub read-done : {n : ℕ} → gives n ≡ prefix capacity s → gives (put (take (n - 2) (drop 2 s)) (new capacity) (n - 2)) ≡ unmarshalled capacity s
+  unfolding unmarshalled
+  read-done e = rw (← e)
+
+  pub unmarshal-refused : {why : List ℕ} → refuses why ≡ prefix capacity s → new capacity ≡ after (new capacity) (unmarshalled capacity s)
+  unmarshal-refused e = ap (after (new capacity)) (read-refused e)
 
   -- what a copy of the data to the start of zeros leaves, with its size, is the buffer read
   pub unmarshal-done : (n : ℕ) (t room : List ℕ) → gives n ≡ prefix capacity s → t ≡ take (n - 2) (drop 2 s)

@@ -1,2 +1,3 @@
+pub mod Buffer
 pub mod Code
 pub mod Out
