@@ -37,12 +37,13 @@ tpm2b-again s n b e h =
     let there : n ≤ length (drop 2 s) = rw length-drop (omega arith) in
     let size : length (take n (drop 2 s)) ≡ n = length-take-le n (drop 2 s) there in
     let two : bytes 2 n ≡ take 2 s =
-            ap (bytes 2) e ∙ ap (λ (k : ℕ). bytes k (number (take 2 s))) (sym (length-take-le 2 s (omega arith)))
-            ∙ bytes-number (take 2 s) (are-bytes-take 2 s b) in
+    ap (bytes 2) e ∙ ap (λ (k : ℕ). bytes k (number (take 2 s))) (sym (length-take-le 2 s (omega arith)))
+    ∙ bytes-number (take 2 s) (are-bytes-take 2 s b) in
     rw (size, two, append-assoc, ← drop-drop n 2 s, take-append-drop n (drop 2 s)) (take-append-drop 2 s)
 
 pub one-division : (t u r q : List ℕ) → length t < 65536 → length u < 65536 → tpm2b t ++ r ≡ tpm2b u ++ q → (t ≡ u) × (r ≡ q)
 one-division t u r q h k e =
-    let size : length t ≡ length u = sym (tpm2b-size t r h) ∙ ap (λ (s : List ℕ). number (take 2 s)) e ∙ tpm2b-size u q k in
-    ( sym (tpm2b-data t r h) ∙ (λ i. take (size i) (drop 2 (e i))) ∙ tpm2b-data u q k
-    , sym (tpm2b-rest t r h) ∙ (λ i. drop (2 + size i) (e i)) ∙ tpm2b-rest u q k )
+    let size : length t ≡ length u = sym (tpm2b-size t r h) ∙ ap (λ (s : List ℕ). number (take 2 s)) e ∙ tpm2b-size u q k in (
+      sym (tpm2b-data t r h) ∙ (λ i. take (size i) (drop 2 (e i))) ∙ tpm2b-data u q k,
+      sym (tpm2b-rest t r h) ∙ (λ i. drop (2 + size i) (e i)) ∙ tpm2b-rest u q k,
+    )

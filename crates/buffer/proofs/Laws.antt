@@ -53,11 +53,12 @@ module _ (capacity : ℕ) (b : Buffer) (rest : List ℕ) (w : OfCapacity capacit
       let size = length-held in
       let two : 2 + b .size - 2 ≡ length (held b) = omega arith in
       let back : t ≡ held b = (λ i. take (two i) (drop 2 (wire-tpm2b i ++ rest))) ∙ tpm2b-data (held b) rest (omega arith) in
-      let all : length t ≡ 2 + b .size - 2 = ap length back ∙ sym two in
-      ( put t (new capacity) (2 + b .size - 2)
-      , rw (← read)
-      , take-at t (drop (2 + b .size - 2) (replicate capacity 0)) (2 + b .size - 2) all ∙ back
-      , rw (← read) (ap (λ (n : ℕ). drop (2 + n) s) (sym size) ∙ ap (λ (l : List ℕ). drop (2 + length (held b)) (l ++ rest)) wire-tpm2b ∙ tpm2b-rest (held b) rest (omega arith)) )
+      let all : length t ≡ 2 + b .size - 2 = ap length back ∙ sym two in (
+        put t (new capacity) (2 + b .size - 2),
+        rw (← read),
+        take-at t (drop (2 + b .size - 2) (replicate capacity 0)) (2 + b .size - 2) all ∙ back,
+        rw (← read) (ap (λ (n : ℕ). drop (2 + n) s) (sym size) ∙ ap (λ (l : List ℕ). drop (2 + length (held b)) (l ++ rest)) wire-tpm2b ∙ tpm2b-rest (held b) rest (omega arith)),
+      )
 
 -- unmarshal, then marshal: the bytes that were read
 module _ (capacity : ℕ) (s : List ℕ) (p : AreBytes s) where
@@ -71,8 +72,8 @@ module _ (capacity : ℕ) (s : List ℕ) (p : AreBytes s) where
       let long : length t ≡ n - 2 = length-take-le (n - 2) (drop 2 s) there in
       let found : put t (new capacity) (n - 2) ≡ b = gives-injective (rw e at u) in
       let laid : wire b ≡ tpm2b t =
-              ap wire (sym found) ∙ ap (λ (l : List ℕ). bytes 2 (n - 2) ++ l) (take-at t (drop (n - 2) (replicate capacity 0)) (n - 2) long)
-              ∙ ap (λ (m : ℕ). bytes 2 m ++ t) (sym long) in
+      ap wire (sym found) ∙ ap (λ (l : List ℕ). bytes 2 (n - 2) ++ l) (take-at t (drop (n - 2) (replicate capacity 0)) (n - 2) long)
+      ∙ ap (λ (m : ℕ). bytes 2 m ++ t) (sym long) in
       let again : tpm2b t ++ drop (2 + (n - 2)) s ≡ s = tpm2b-again s (n - 2) p (omega arith) (omega arith) in
       let whole : length (tpm2b t) ≡ n = length-tpm2b t ∙ omega arith in
       laid ∙ sym (take-at (tpm2b t) (drop (2 + (n - 2)) s) n whole) ∙ ap (take n) again

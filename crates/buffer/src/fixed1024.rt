@@ -7,11 +7,11 @@ ghost use Rattle.base.specs.Said.{after, done};
 ghost use Rattle.buffer.specs.Fixed.{copied, count, equal, extended, marshalled, new, unmarshalled, wireLength};
 ghost use Rattle.buffer.specs.View.{prefix};
 ghost use Rattle.buffer.specs.Capacities.{of1024};
+use crate::room;
+use crate::view;
 use base::answer::Count;
 use base::answer::Flag;
 use base::answer::Outcome;
-use crate::room;
-use crate::view;
 
 pub struct TpmBuffer1024 {
     pub size: u16,

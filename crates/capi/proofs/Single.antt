@@ -1,36 +1,176 @@
 -- Each call of capi leaves a single answer and a single later state of what was lent (base, specs/Single.antt).
 -- Assumes nothing.
-use mathlib.Core.Path.{sym, _∙_}
+use mathlib.Core.Path.{_≡_, sym, _∙_}
+use mathlib.Core.List.{List}
+use Prim.Native.Nat.{ℕ}
+use Rattle.base.specs.Said.{Said}
 use Rattle.base.specs.Single.{Single}
+use Rattle.capi.specs.Out.{Reports}
 use Rattle.capi.proofs.field.skein_read_u16.Kinds as skein-read-u16-kinds
 use Rattle.capi.proofs.field.skein_read_u16.Reads as skein-read-u16-reads
-use Rattle.capi.proofs.field.skein_read_u32.Kinds as skein-read-u32-kinds
-use Rattle.capi.proofs.field.skein_read_u32.Reads as skein-read-u32-reads
 use Rattle.capi.proofs.field.skein_write_u16.Kinds as skein-write-u16-kinds
 use Rattle.capi.proofs.field.skein_write_u16.Reads as skein-write-u16-reads
+use Rattle.capi.proofs.field.skein_read_u32.Kinds as skein-read-u32-kinds
+use Rattle.capi.proofs.field.skein_read_u32.Reads as skein-read-u32-reads
 use Rattle.capi.proofs.field.skein_write_u32.Kinds as skein-write-u32-kinds
 use Rattle.capi.proofs.field.skein_write_u32.Reads as skein-write-u32-reads
 use Rattle.capi.proofs.code.skein_rc_read.Kinds as skein-rc-read-kinds
 use Rattle.capi.proofs.code.skein_rc_read.Reads as skein-rc-read-reads
 use Rattle.capi.proofs.code.skein_rc_value.Kinds as skein-rc-value-kinds
 use Rattle.capi.proofs.code.skein_rc_value.Reads as skein-rc-value-reads
+use Rattle.capi.proofs.tpm2b.skein_tpm2b_validate_prefix.Kinds as skein-tpm2b-validate-prefix-kinds
+use Rattle.capi.proofs.tpm2b.skein_tpm2b_validate_prefix.Reads as skein-tpm2b-validate-prefix-reads
+use Rattle.capi.proofs.tpm2b.skein_tpm2b_validate.Kinds as skein-tpm2b-validate-kinds
+use Rattle.capi.proofs.tpm2b.skein_tpm2b_validate.Reads as skein-tpm2b-validate-reads
+use Rattle.capi.proofs.tpm2b.skein_tpm2b_cast.Kinds as skein-tpm2b-cast-kinds
+use Rattle.capi.proofs.tpm2b.skein_tpm2b_cast.Reads as skein-tpm2b-cast-reads
+use Rattle.capi.proofs.tpm2b.skein_tpm2b_cast_prefix.Kinds as skein-tpm2b-cast-prefix-kinds
+use Rattle.capi.proofs.tpm2b.skein_tpm2b_cast_prefix.Reads as skein-tpm2b-cast-prefix-reads
+use Rattle.capi.proofs.tpm2b.skein_tpm2b_size.Kinds as skein-tpm2b-size-kinds
+use Rattle.capi.proofs.tpm2b.skein_tpm2b_size.Reads as skein-tpm2b-size-reads
+use Rattle.capi.proofs.tpm2b.skein_tpm2b_data.Kinds as skein-tpm2b-data-kinds
+use Rattle.capi.proofs.tpm2b.skein_tpm2b_data.Reads as skein-tpm2b-data-reads
+use Rattle.capi.proofs.tpm2b.skein_tpm2b_is_empty.Kinds as skein-tpm2b-is-empty-kinds
+use Rattle.capi.proofs.tpm2b.skein_tpm2b_is_empty.Reads as skein-tpm2b-is-empty-reads
+use Rattle.capi.proofs.tpm2b.skein_tpm2b_len.Kinds as skein-tpm2b-len-kinds
+use Rattle.capi.proofs.tpm2b.skein_tpm2b_len.Reads as skein-tpm2b-len-reads
+use Rattle.capi.proofs.buffer64.skein_buffer64_new.Kinds as skein-buffer64-new-kinds
+use Rattle.capi.proofs.buffer64.skein_buffer64_new.Reads as skein-buffer64-new-reads
+use Rattle.capi.proofs.buffer64.skein_buffer64_len.Kinds as skein-buffer64-len-kinds
+use Rattle.capi.proofs.buffer64.skein_buffer64_len.Reads as skein-buffer64-len-reads
+use Rattle.capi.proofs.buffer64.skein_buffer64_held.Kinds as skein-buffer64-held-kinds
+use Rattle.capi.proofs.buffer64.skein_buffer64_held.Reads as skein-buffer64-held-reads
+use Rattle.capi.proofs.buffer64.skein_buffer64_marshal.Kinds as skein-buffer64-marshal-kinds
+use Rattle.capi.proofs.buffer64.skein_buffer64_marshal.Reads as skein-buffer64-marshal-reads
+use Rattle.capi.proofs.buffer64.skein_buffer64_eq.Kinds as skein-buffer64-eq-kinds
+use Rattle.capi.proofs.buffer64.skein_buffer64_eq.Reads as skein-buffer64-eq-reads
+use Rattle.capi.proofs.buffer64.skein_buffer64_push.Kinds as skein-buffer64-push-kinds
+use Rattle.capi.proofs.buffer64.skein_buffer64_push.Reads as skein-buffer64-push-reads
+use Rattle.capi.proofs.buffer64.skein_buffer64_extend.Kinds as skein-buffer64-extend-kinds
+use Rattle.capi.proofs.buffer64.skein_buffer64_extend.Reads as skein-buffer64-extend-reads
+use Rattle.capi.proofs.buffer64.skein_buffer64_from_slice.Kinds as skein-buffer64-from-slice-kinds
+use Rattle.capi.proofs.buffer64.skein_buffer64_from_slice.Reads as skein-buffer64-from-slice-reads
+use Rattle.capi.proofs.buffer64.skein_buffer64_unmarshal.Kinds as skein-buffer64-unmarshal-kinds
+use Rattle.capi.proofs.buffer64.skein_buffer64_unmarshal.Reads as skein-buffer64-unmarshal-reads
+use Rattle.capi.proofs.buffer1024.skein_buffer1024_new.Kinds as skein-buffer1024-new-kinds
+use Rattle.capi.proofs.buffer1024.skein_buffer1024_new.Reads as skein-buffer1024-new-reads
+use Rattle.capi.proofs.buffer1024.skein_buffer1024_len.Kinds as skein-buffer1024-len-kinds
+use Rattle.capi.proofs.buffer1024.skein_buffer1024_len.Reads as skein-buffer1024-len-reads
+use Rattle.capi.proofs.buffer1024.skein_buffer1024_held.Kinds as skein-buffer1024-held-kinds
+use Rattle.capi.proofs.buffer1024.skein_buffer1024_held.Reads as skein-buffer1024-held-reads
+use Rattle.capi.proofs.buffer1024.skein_buffer1024_marshal.Kinds as skein-buffer1024-marshal-kinds
+use Rattle.capi.proofs.buffer1024.skein_buffer1024_marshal.Reads as skein-buffer1024-marshal-reads
+use Rattle.capi.proofs.buffer1024.skein_buffer1024_eq.Kinds as skein-buffer1024-eq-kinds
+use Rattle.capi.proofs.buffer1024.skein_buffer1024_eq.Reads as skein-buffer1024-eq-reads
+use Rattle.capi.proofs.buffer1024.skein_buffer1024_push.Kinds as skein-buffer1024-push-kinds
+use Rattle.capi.proofs.buffer1024.skein_buffer1024_push.Reads as skein-buffer1024-push-reads
+use Rattle.capi.proofs.buffer1024.skein_buffer1024_extend.Kinds as skein-buffer1024-extend-kinds
+use Rattle.capi.proofs.buffer1024.skein_buffer1024_extend.Reads as skein-buffer1024-extend-reads
+use Rattle.capi.proofs.buffer1024.skein_buffer1024_from_slice.Kinds as skein-buffer1024-from-slice-kinds
+use Rattle.capi.proofs.buffer1024.skein_buffer1024_from_slice.Reads as skein-buffer1024-from-slice-reads
+use Rattle.capi.proofs.buffer1024.skein_buffer1024_unmarshal.Kinds as skein-buffer1024-unmarshal-kinds
+use Rattle.capi.proofs.buffer1024.skein_buffer1024_unmarshal.Reads as skein-buffer1024-unmarshal-reads
+
+-- two reports of one answer are one
+module _ {A : Type 0} {of : A → List ℕ} {said : Said A} {old s t : List ℕ} {r q : ℕ} where
+  status : Reports of said old s r → Reports of said old t q → r ≡ q
+  status p e = p .status ∙ sym (e .status)
+
+  array : Reports of said old s r → Reports of said old t q → s ≡ t
+  array p e = p .array ∙ sym (e .array)
 
 skein-read-u16 : Single 2 skein-read-u16-kinds.ps skein-read-u16-kinds.r skein-read-u16-reads.Post
-skein-read-u16 κs a x y v w p q = (p .status ∙ sym (q .status), λ i. (tt, (tt, ((p .array ∙ sym (q .array)) i, tt))))
-
-skein-read-u32 : Single 2 skein-read-u32-kinds.ps skein-read-u32-kinds.r skein-read-u32-reads.Post
-skein-read-u32 κs a x y v w p q = (p .status ∙ sym (q .status), λ i. (tt, (tt, ((p .array ∙ sym (q .array)) i, tt))))
+skein-read-u16 κs a x y v w p q = (status p q, λ i. (tt, (tt, (array p q i, tt))))
 
 skein-write-u16 : Single 2 skein-write-u16-kinds.ps skein-write-u16-kinds.r skein-write-u16-reads.Post
-skein-write-u16 κs a x y v w p q =
-    (p .0 .status ∙ sym (q .0 .status), λ i. ((p .1 ∙ sym (q .1)) i, (tt, (tt, ((p .0 .array ∙ sym (q .0 .array)) i, tt)))))
+skein-write-u16 κs a x y v w p q = (status (p .0) (q .0), λ i. ((p .1 ∙ sym (q .1)) i, (tt, (tt, (array (p .0) (q .0) i, tt)))))
+
+skein-read-u32 : Single 2 skein-read-u32-kinds.ps skein-read-u32-kinds.r skein-read-u32-reads.Post
+skein-read-u32 κs a x y v w p q = (status p q, λ i. (tt, (tt, (array p q i, tt))))
 
 skein-write-u32 : Single 2 skein-write-u32-kinds.ps skein-write-u32-kinds.r skein-write-u32-reads.Post
-skein-write-u32 κs a x y v w p q =
-    (p .0 .status ∙ sym (q .0 .status), λ i. ((p .1 ∙ sym (q .1)) i, (tt, (tt, ((p .0 .array ∙ sym (q .0 .array)) i, tt)))))
+skein-write-u32 κs a x y v w p q = (status (p .0) (q .0), λ i. ((p .1 ∙ sym (q .1)) i, (tt, (tt, (array (p .0) (q .0) i, tt)))))
 
 skein-rc-read : Single 1 skein-rc-read-kinds.ps skein-rc-read-kinds.r skein-rc-read-reads.Post
-skein-rc-read κs a x y v w p q = (p .status ∙ sym (q .status), λ i. (tt, ((p .array ∙ sym (q .array)) i, tt)))
+skein-rc-read κs a x y v w p q = (status p q, λ i. (tt, (array p q i, tt)))
 
 skein-rc-value : Single 1 skein-rc-value-kinds.ps skein-rc-value-kinds.r skein-rc-value-reads.Post
-skein-rc-value κs a x y v w p q = (p .status ∙ sym (q .status), λ i. (tt, (tt, (tt, ((p .array ∙ sym (q .array)) i, tt)))))
+skein-rc-value κs a x y v w p q = (status p q, λ i. (tt, (tt, (tt, (array p q i, tt)))))
+
+skein-tpm2b-validate-prefix : Single 2 skein-tpm2b-validate-prefix-kinds.ps skein-tpm2b-validate-prefix-kinds.r skein-tpm2b-validate-prefix-reads.Post
+skein-tpm2b-validate-prefix κs a x y v w p q = (status p q, λ i. (tt, (tt, (array p q i, tt))))
+
+skein-tpm2b-validate : Single 2 skein-tpm2b-validate-kinds.ps skein-tpm2b-validate-kinds.r skein-tpm2b-validate-reads.Post
+skein-tpm2b-validate κs a x y v w p q = (status p q, λ i. (tt, (tt, (array p q i, tt))))
+
+skein-tpm2b-cast : Single 2 skein-tpm2b-cast-kinds.ps skein-tpm2b-cast-kinds.r skein-tpm2b-cast-reads.Post
+skein-tpm2b-cast κs a x y v w p q = (status p q, λ i. (tt, (tt, (array p q i, tt))))
+
+skein-tpm2b-cast-prefix : Single 2 skein-tpm2b-cast-prefix-kinds.ps skein-tpm2b-cast-prefix-kinds.r skein-tpm2b-cast-prefix-reads.Post
+skein-tpm2b-cast-prefix κs a x y v w p q = (status p q, λ i. (tt, (tt, (array p q i, tt))))
+
+skein-tpm2b-size : Single 2 skein-tpm2b-size-kinds.ps skein-tpm2b-size-kinds.r skein-tpm2b-size-reads.Post
+skein-tpm2b-size κs a x y v w p q = (status p q, λ i. (tt, (array p q i, tt)))
+
+skein-tpm2b-data : Single 2 skein-tpm2b-data-kinds.ps skein-tpm2b-data-kinds.r skein-tpm2b-data-reads.Post
+skein-tpm2b-data κs a x y v w p q = (status p q, λ i. (tt, (array p q i, tt)))
+
+skein-tpm2b-is-empty : Single 2 skein-tpm2b-is-empty-kinds.ps skein-tpm2b-is-empty-kinds.r skein-tpm2b-is-empty-reads.Post
+skein-tpm2b-is-empty κs a x y v w p q = (status p q, λ i. (tt, (array p q i, tt)))
+
+skein-tpm2b-len : Single 2 skein-tpm2b-len-kinds.ps skein-tpm2b-len-kinds.r skein-tpm2b-len-reads.Post
+skein-tpm2b-len κs a x y v w p q = (status p q, λ i. (tt, (array p q i, tt)))
+
+skein-buffer64-new : Single 2 skein-buffer64-new-kinds.ps skein-buffer64-new-kinds.r skein-buffer64-new-reads.Post
+skein-buffer64-new κs a x y v w p q = (status (p .0) (q .0), λ i. ((p .1 ∙ sym (q .1)) i, (array (p .0) (q .0) i, tt)))
+
+skein-buffer64-len : Single 1 skein-buffer64-len-kinds.ps skein-buffer64-len-kinds.r skein-buffer64-len-reads.Post
+skein-buffer64-len κs a x y v w p q = (status p q, λ i. (tt, (array p q i, tt)))
+
+skein-buffer64-held : Single 3 skein-buffer64-held-kinds.ps skein-buffer64-held-kinds.r skein-buffer64-held-reads.Post
+skein-buffer64-held κs a x y v w p q = (status (p .0) (q .0), λ i. (tt, (tt, ((p .1 ∙ sym (q .1)) i, (array (p .0) (q .0) i, tt)))))
+
+skein-buffer64-marshal : Single 3 skein-buffer64-marshal-kinds.ps skein-buffer64-marshal-kinds.r skein-buffer64-marshal-reads.Post
+skein-buffer64-marshal κs a x y v w p q = (status (p .0) (q .0), λ i. (tt, (tt, ((p .1 ∙ sym (q .1)) i, (array (p .0) (q .0) i, tt)))))
+
+skein-buffer64-eq : Single 3 skein-buffer64-eq-kinds.ps skein-buffer64-eq-kinds.r skein-buffer64-eq-reads.Post
+skein-buffer64-eq κs a x y v w p q = (status p q, λ i. (tt, (tt, (tt, (tt, (array p q i, tt))))))
+
+skein-buffer64-push : Single 2 skein-buffer64-push-kinds.ps skein-buffer64-push-kinds.r skein-buffer64-push-reads.Post
+skein-buffer64-push κs a x y v w p q = (status (p .0) (q .0), λ i. (tt, ((p .1 ∙ sym (q .1)) i, (tt, (array (p .0) (q .0) i, tt)))))
+
+skein-buffer64-extend : Single 3 skein-buffer64-extend-kinds.ps skein-buffer64-extend-kinds.r skein-buffer64-extend-reads.Post
+skein-buffer64-extend κs a x y v w p q = (status (p .0) (q .0), λ i. (tt, ((p .1 ∙ sym (q .1)) i, (tt, (array (p .0) (q .0) i, tt)))))
+
+skein-buffer64-from-slice : Single 3 skein-buffer64-from-slice-kinds.ps skein-buffer64-from-slice-kinds.r skein-buffer64-from-slice-reads.Post
+skein-buffer64-from-slice κs a x y v w p q = (status (p .0) (q .0), λ i. (tt, ((p .1 ∙ sym (q .1)) i, (array (p .0) (q .0) i, tt))))
+
+skein-buffer64-unmarshal : Single 3 skein-buffer64-unmarshal-kinds.ps skein-buffer64-unmarshal-kinds.r skein-buffer64-unmarshal-reads.Post
+skein-buffer64-unmarshal κs a x y v w p q = (status (p .0) (q .0), λ i. (tt, ((p .1 ∙ sym (q .1)) i, (array (p .0) (q .0) i, tt))))
+
+skein-buffer1024-new : Single 2 skein-buffer1024-new-kinds.ps skein-buffer1024-new-kinds.r skein-buffer1024-new-reads.Post
+skein-buffer1024-new κs a x y v w p q = (status (p .0) (q .0), λ i. ((p .1 ∙ sym (q .1)) i, (array (p .0) (q .0) i, tt)))
+
+skein-buffer1024-len : Single 1 skein-buffer1024-len-kinds.ps skein-buffer1024-len-kinds.r skein-buffer1024-len-reads.Post
+skein-buffer1024-len κs a x y v w p q = (status p q, λ i. (tt, (array p q i, tt)))
+
+skein-buffer1024-held : Single 3 skein-buffer1024-held-kinds.ps skein-buffer1024-held-kinds.r skein-buffer1024-held-reads.Post
+skein-buffer1024-held κs a x y v w p q = (status (p .0) (q .0), λ i. (tt, (tt, ((p .1 ∙ sym (q .1)) i, (array (p .0) (q .0) i, tt)))))
+
+skein-buffer1024-marshal : Single 3 skein-buffer1024-marshal-kinds.ps skein-buffer1024-marshal-kinds.r skein-buffer1024-marshal-reads.Post
+skein-buffer1024-marshal κs a x y v w p q = (status (p .0) (q .0), λ i. (tt, (tt, ((p .1 ∙ sym (q .1)) i, (array (p .0) (q .0) i, tt)))))
+
+skein-buffer1024-eq : Single 3 skein-buffer1024-eq-kinds.ps skein-buffer1024-eq-kinds.r skein-buffer1024-eq-reads.Post
+skein-buffer1024-eq κs a x y v w p q = (status p q, λ i. (tt, (tt, (tt, (tt, (array p q i, tt))))))
+
+skein-buffer1024-push : Single 2 skein-buffer1024-push-kinds.ps skein-buffer1024-push-kinds.r skein-buffer1024-push-reads.Post
+skein-buffer1024-push κs a x y v w p q = (status (p .0) (q .0), λ i. (tt, ((p .1 ∙ sym (q .1)) i, (tt, (array (p .0) (q .0) i, tt)))))
+
+skein-buffer1024-extend : Single 3 skein-buffer1024-extend-kinds.ps skein-buffer1024-extend-kinds.r skein-buffer1024-extend-reads.Post
+skein-buffer1024-extend κs a x y v w p q = (status (p .0) (q .0), λ i. (tt, ((p .1 ∙ sym (q .1)) i, (tt, (array (p .0) (q .0) i, tt)))))
+
+skein-buffer1024-from-slice : Single 3 skein-buffer1024-from-slice-kinds.ps skein-buffer1024-from-slice-kinds.r skein-buffer1024-from-slice-reads.Post
+skein-buffer1024-from-slice κs a x y v w p q = (status (p .0) (q .0), λ i. (tt, ((p .1 ∙ sym (q .1)) i, (array (p .0) (q .0) i, tt))))
+
+skein-buffer1024-unmarshal : Single 3 skein-buffer1024-unmarshal-kinds.ps skein-buffer1024-unmarshal-kinds.r skein-buffer1024-unmarshal-reads.Post
+skein-buffer1024-unmarshal κs a x y v w p q = (status (p .0) (q .0), λ i. (tt, ((p .1 ∙ sym (q .1)) i, (array (p .0) (q .0) i, tt))))

@@ -9,12 +9,12 @@ ghost use Rattle.buffer.specs.Fixed.{buffer as record-of, copied, count, equal,
 ghost use Rattle.buffer.specs.View.{prefix};
 ghost use Rattle.capi.specs.Buffer.{laid, roomAfter, sizeAndWire, sizeOf};
 ghost use Rattle.capi.specs.Out.{Reports, one, truth};
+use crate::out;
+use crate::out::Numbers;
 use base::answer::Count;
 use base::answer::Outcome;
 use buffer::fixed64::Extended64;
 use buffer::fixed64::TpmBuffer64;
-use crate::out;
-use crate::out::Numbers;
 
 type Room = [u8; 64];
 
@@ -46,7 +46,12 @@ pub extern "C" fn skein_buffer64_len(size: u16, out: &mut Numbers) -> u32
 }
 
 #[no_mangle]
-pub extern "C" fn skein_buffer64_held(size: u16, data: &Room, room: &mut [u8], out: &mut Numbers) -> u32
+pub extern "C" fn skein_buffer64_held(
+    size: u16,
+    data: &Room,
+    room: &mut [u8],
+    out: &mut Numbers,
+) -> u32
     ensures { λ r. ⌜ Reports one (count size (copied 64 (record-of size (now («data» .entry))) (now (room .entry)))) (now (out .entry)) (now (out .exit)) r ⌝ }
     ensures { λ r. ⌜ now (room .exit) ≡ after (now (room .entry)) (copied 64 (record-of size (now («data» .entry))) (now (room .entry))) ⌝ }
 {
@@ -54,7 +59,12 @@ pub extern "C" fn skein_buffer64_held(size: u16, data: &Room, room: &mut [u8], o
 }
 
 #[no_mangle]
-pub extern "C" fn skein_buffer64_marshal(size: u16, data: &Room, room: &mut [u8], out: &mut Numbers) -> u32
+pub extern "C" fn skein_buffer64_marshal(
+    size: u16,
+    data: &Room,
+    room: &mut [u8],
+    out: &mut Numbers,
+) -> u32
     ensures { λ r. ⌜ Reports one (count (2 + size) (marshalled 64 (record-of size (now («data» .entry))) (now (room .entry)))) (now (out .entry)) (now (out .exit)) r ⌝ }
     ensures { λ r. ⌜ now (room .exit) ≡ after (now (room .entry)) (marshalled 64 (record-of size (now («data» .entry))) (now (room .entry))) ⌝ }
 {
@@ -62,7 +72,13 @@ pub extern "C" fn skein_buffer64_marshal(size: u16, data: &Room, room: &mut [u8]
 }
 
 #[no_mangle]
-pub extern "C" fn skein_buffer64_eq(size: u16, data: &Room, other_size: u16, other: &Room, out: &mut Numbers) -> u32
+pub extern "C" fn skein_buffer64_eq(
+    size: u16,
+    data: &Room,
+    other_size: u16,
+    other: &Room,
+    out: &mut Numbers,
+) -> u32
     ensures { λ r. ⌜ Reports truth (equal 64 (record-of size (now («data» .entry))) (record-of «other_size» (now (other .entry)))) (now (out .entry)) (now (out .exit)) r ⌝ }
 {
     out::flag(record(size, data).eq(record(other_size, other)), out)
@@ -87,7 +103,12 @@ fn lay(extended: Extended64, data: &mut Room, out: &mut Numbers) -> u32
 }
 
 #[no_mangle]
-pub extern "C" fn skein_buffer64_push(size: u16, data: &mut Room, byte: u8, out: &mut Numbers) -> u32
+pub extern "C" fn skein_buffer64_push(
+    size: u16,
+    data: &mut Room,
+    byte: u8,
+    out: &mut Numbers,
+) -> u32
     ensures { λ r. ⌜ Reports sizeOf (extended 64 (byte ∷ []) (record-of size (now («data» .entry)))) (now (out .entry)) (now (out .exit)) r ⌝ }
     ensures { λ r. ⌜ now («data» .exit) ≡ roomAfter (now («data» .entry)) (extended 64 (byte ∷ []) (record-of size (now («data» .entry)))) ⌝ }
 {
@@ -95,7 +116,12 @@ pub extern "C" fn skein_buffer64_push(size: u16, data: &mut Room, byte: u8, out:
 }
 
 #[no_mangle]
-pub extern "C" fn skein_buffer64_extend(size: u16, data: &mut Room, s: &[u8], out: &mut Numbers) -> u32
+pub extern "C" fn skein_buffer64_extend(
+    size: u16,
+    data: &mut Room,
+    s: &[u8],
+    out: &mut Numbers,
+) -> u32
     ensures { λ r. ⌜ Reports sizeOf (extended 64 (now (s .entry)) (record-of size (now («data» .entry)))) (now (out .entry)) (now (out .exit)) r ⌝ }
     ensures { λ r. ⌜ now («data» .exit) ≡ roomAfter (now («data» .entry)) (extended 64 (now (s .entry)) (record-of size (now («data» .entry)))) ⌝ }
 {

@@ -3,9 +3,9 @@ ghost use mathlib.Core.Path.{_≡_};
 ghost use Rattle.rc.specs.Code.{ofParts, readCode};
 ghost use Rattle.capi.specs.Code.{partsAndValue, value};
 ghost use Rattle.capi.specs.Out.{Reports};
-use base::code::TpmRc;
 use crate::out;
 use crate::out::Numbers;
+use base::code::TpmRc;
 use rc::code::Answer;
 use rc::code::Code;
 

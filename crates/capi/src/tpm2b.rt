@@ -4,10 +4,10 @@ ghost use lib.ListN.{length};
 ghost use Rattle.base.specs.Said.{done, gives};
 ghost use Rattle.buffer.specs.View.{dataRange, isEmpty, prefix, readSize, whole};
 ghost use Rattle.capi.specs.Out.{Reports, ends, fromStart, none, one, truth, withTail};
-use base::answer::Count;
-use base::answer::Outcome;
 use crate::out;
 use crate::out::Numbers;
+use base::answer::Count;
+use base::answer::Outcome;
 
 #[no_mangle]
 pub extern "C" fn skein_tpm2b_validate_prefix(capacity: usize, s: &[u8], out: &mut Numbers) -> u32

@@ -28,8 +28,8 @@ with-parameter : (b n : ℕ) → 128 ≤ b → b < 192 → bitOr (bitOr b 64) (n
 with-parameter b n h k =
     let e : b ≡ 2 * 2 ^ 6 + (b - 128) = omega arith in
     let joined : bitOr b 64 ≡ b + 64 =
-            ap (λ (x : ℕ). bitOr x 64) e ∙ or-block 6 2 1 (b - 128) 0 (omega arith) (omega arith)
-            ∙ ap (λ (x : ℕ). 192 + x) (or-zero-r (b - 128)) ∙ omega arith in
+    ap (λ (x : ℕ). bitOr x 64) e ∙ or-block 6 2 1 (b - 128) 0 (omega arith) (omega arith)
+    ∙ ap (λ (x : ℕ). 192 + x) (or-zero-r (b - 128)) ∙ omega arith in
     ap (λ (x : ℕ). bitOr x (n % 16 * 256)) joined ∙ or-shifted-r (n % 16) 8 (b + 64) (omega arith)
 
 -- a value of format one is its parts, weighed
@@ -142,9 +142,10 @@ complete (Session b n) w =
 
 -- a value reads exactly when it is the value of a well-formed code
 pub reads-exactly : (value : ℕ) → ((c : Code) × (readCode value ≡ gives c)) ↔ ((c : Code) × (WellFormed c × (valueOf c ≡ value)))
-reads-exactly value =
-    ( (λ r. (r .0, sound value (r .0) (r .1)))
-    , (λ r. (r .0, subst (λ (v : ℕ). readCode v ≡ gives (r .0)) (r .1 .1) (complete (r .0) (r .1 .0)))) )
+reads-exactly value = (
+  (λ r. (r .0, sound value (r .0) (r .1))),
+  (λ r. (r .0, subst (λ (v : ℕ). readCode v ≡ gives (r .0)) (r .1 .1) (complete (r .0) (r .1 .0)))),
+)
 
 -- two well-formed codes of one value are one
 pub one-reading : (c d : Code) → WellFormed c → WellFormed d → valueOf c ≡ valueOf d → c ≡ d

@@ -2,9 +2,9 @@
 ghost use mathlib.Core.Path.{_≡_};
 ghost use Prim.Native.Nat.{_*_, _%_};
 ghost use Rattle.rc.specs.Code.{baseOf, indexOf, kindOf, ofParts, readCode, readFmt1, saidCode, valueOf};
+use crate::known::known;
 use base::code::TpmRc;
 use base::error::TpmError;
-use crate::known::known;
 
 // A base code. Reading gives known ones alone.
 pub struct TpmRcBase(pub u32);

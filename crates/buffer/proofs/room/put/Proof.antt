@@ -39,10 +39,11 @@ loop-less c = omega arith
 loop-again : tie.Need-loop-again Inv-loop μ-loop
 loop-again c =
     let a = c .before .before .before .args in
-    let l = c .before .before .loop in
-    ( omega arith
-    , length-set (l .s) (a .place + l .i) (getD (now (a .t)) (l .i) 0) ∙ l .inv .1
-    , rw (add-one, l .inv .2) (paste-suc (now (a .s)) (a .place) (now (a .t)) (l .i) 0 (omega arith) (omega arith)) )
+    let l = c .before .before .loop in (
+      omega arith,
+      length-set (l .s) (a .place + l .i) (getD (now (a .t)) (l .i) 0) ∙ l .inv .1,
+      rw (add-one, l .inv .2) (paste-suc (now (a .s)) (a .place) (now (a .t)) (l .i) 0 (omega arith) (omega arith)),
+    )
 
 same-length : tie.Need-same-length Inv-loop μ-loop
 same-length c = c .before .loop .inv .1

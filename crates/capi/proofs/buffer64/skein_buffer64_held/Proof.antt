@@ -27,9 +27,9 @@ returns c =
     let room = now (c .before .before .before .before .before .before .before .before .args .room) in
     let said = c .before .before .before .before .copy-out in
     let told =
-            subst
-            (λ (b : Buffer). (saidCount (said .result) ≡ count (b .size) (copied 64 b room)) × (said .last .1 .0 ≡ after room (copied 64 b room)))
-            (c .before .before .before .before .before .before .record .ensures) (said .ensures) in
+    subst
+    (λ (b : Buffer). (saidCount (said .result) ≡ count (b .size) (copied 64 b room)) × (said .last .1 .0 ≡ after room (copied 64 b room)))
+    (c .before .before .before .before .before .before .record .ensures) (said .ensures) in
     (as-said (told .0) (c .count .ensures), told .1)
 
 pub skein-buffer64-held-spec : {M : Type 1} → statement M

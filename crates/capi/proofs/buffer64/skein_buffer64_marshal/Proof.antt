@@ -28,9 +28,9 @@ returns c =
     let room = now (c .before .before .before .before .before .before .before .before .args .room) in
     let said = c .before .before .before .before .marshal in
     let told =
-            subst
-            (λ (b : Buffer). (saidCount (said .result) ≡ count (2 + b .size) (marshalled 64 b room)) × (said .last .1 .0 ≡ after room (marshalled 64 b room)))
-            (c .before .before .before .before .before .before .record .ensures) (said .ensures) in
+    subst
+    (λ (b : Buffer). (saidCount (said .result) ≡ count (2 + b .size) (marshalled 64 b room)) × (said .last .1 .0 ≡ after room (marshalled 64 b room)))
+    (c .before .before .before .before .before .before .record .ensures) (said .ensures) in
     (as-said (told .0) (c .count .ensures), told .1)
 
 pub skein-buffer64-marshal-spec : {M : Type 1} → statement M

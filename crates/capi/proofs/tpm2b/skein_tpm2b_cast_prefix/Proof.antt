@@ -56,7 +56,7 @@ returns-2 c =
     let read = learnt saidCount (c .before .before .enum-told .given .1) (c .before .before .before .before .validate-prefix .ensures) in
     let view = ap length (c .before .cast-prefix .ensures) ∙ view-length _ s read in
     let all : length (c .before .cast-prefix .result .now) + length (c .cast-prefix-tail .result .now) ≡ length s =
-            (λ i. length (c .before .cast-prefix .ensures i) + length (c .cast-prefix-tail .ensures i)) ∙ view-and-tail _ s read in
+    (λ i. length (c .before .cast-prefix .ensures i) + length (c .cast-prefix-tail .ensures i)) ∙ view-and-tail _ s read in
     rw (all, view) (answered (withTail (length s)) _ _ _ read)
 
 pub skein-tpm2b-cast-prefix-spec : {M : Type 1} → statement M

@@ -39,9 +39,14 @@ returns-7 : tie.Need-returns-7
 unfolding ofParts
 returns-7 c =
     let others = c .before .match .rest in
-    simp
-    ( ne-eqb _ 0 (others .0 .0 .0 .0 .0 .1), ne-eqb _ 1 (others .0 .0 .0 .0 .1), ne-eqb _ 2 (others .0 .0 .0 .1)
-    , ne-eqb _ 3 (others .0 .0 .1), ne-eqb _ 4 (others .0 .1), ne-eqb _ 5 (others .1) )
+    simp (
+      ne-eqb _ 0 (others .0 .0 .0 .0 .0 .1),
+      ne-eqb _ 1 (others .0 .0 .0 .0 .1),
+      ne-eqb _ 2 (others .0 .0 .0 .1),
+      ne-eqb _ 3 (others .0 .0 .1),
+      ne-eqb _ 4 (others .0 .1),
+      ne-eqb _ 5 (others .1),
+    )
     (ap refuses (c .refused .ensures))
 
 pub from-parts-spec : {M : Type 1} → statement M
