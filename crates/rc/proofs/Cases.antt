@@ -1,40 +1,35 @@
 -- The cases of the reading of a code, each from the tests that lead to it.
 -- Assumes nothing.
 use mathlib.Core.Path.{_≡_, refl, sym, _∙_, ap}
-use mathlib.Core.Bool.{Bool, true, false, _&&_, and-false}
+use mathlib.Core.Bool.{Bool, true, false, _&&_}
 use mathlib.Core.List.{[], _∷_}
-use mathlib.Core.Logic.{_⊎_, inl, inr}
 use Prim.Native.Nat.{ℕ, _+_, _-_, _/_, _%_, _≤_, _<_}
 use native.Mathlib.Omega.{arith}
 use borrow.Author.Tests.{lt-ltb, le-ltb, eq-eqb, ne-eqb}
 use lib.Dec.{eqb, ltb}
-use Rattle.base.specs.Said.{Said, gives, refuses}
+use Rattle.base.specs.Said.{Said, gives, refuses, either}
 use Rattle.rc.specs.declared.code.Code.{Code}
 use Rattle.rc.specs.declared.code.Code.the-variants.{Fmt0, Warn, Fmt1, Parameter, Handle, Session}
 use Rattle.rc.specs.Known.{isKnown}
 use Rattle.rc.specs.Code.{bit, base, readIndex, readFmt1, readFmt0, readCode}
 
 module _ (value : ℕ) where
-  pub format-one : value / 128 % 2 ≡ 1 → readFmt1 value ≡ readCode value
+  pub format-one : bit 128 value ≡ true → readFmt1 value ≡ readCode value
   unfolding readCode
-  format-one t = simp (eq-eqb (value / 128 % 2) 1 t)
+  format-one t = simp t
 
-  pub format-zero : (value / 128 % 2 ≡ 1 → ⊥) → readFmt0 value ≡ readCode value
+  pub format-zero : bit 128 value ≡ false → readFmt0 value ≡ readCode value
   unfolding readCode
-  format-zero t = simp (ne-eqb (value / 128 % 2) 1 t)
+  format-zero t = simp t
 
   pub fmt0-unknown : isKnown value ≡ false → refuses (5 ∷ 0 ∷ value ∷ []) ≡ readFmt0 value
   unfolding readFmt0
   fmt0-unknown k = simp k
 
-  pub fmt0-plain : isKnown value ≡ true → (value / 256 % 2 ≡ 0) ⊎ (value / 2048 % 2 ≡ 0) → gives (Fmt0 (base value)) ≡ readFmt0 value
+  pub fmt0-known : isKnown value ≡ true → (t : Bool) → (bit 256 value && bit 2048 value) ≡ t
+      → gives (either t (Warn (base value)) (Fmt0 (base value))) ≡ readFmt0 value
   unfolding readFmt0
-  fmt0-plain k (inl t) = simp (k, ne-eqb (value / 256 % 2) 1 (λ u. omega arith))
-  fmt0-plain k (inr t) = simp (k, ne-eqb (value / 2048 % 2) 1 (λ u. omega arith), and-false)
-
-  pub fmt0-warning : isKnown value ≡ true → (value / 256 % 2 ≡ 0 → ⊥) → (value / 2048 % 2 ≡ 0 → ⊥) → gives (Warn (base value)) ≡ readFmt0 value
-  unfolding readFmt0
-  fmt0-warning k t u = simp (k, eq-eqb (value / 256 % 2) 1 (omega arith), eq-eqb (value / 2048 % 2) 1 (omega arith))
+  fmt0-known k t e = simp (k, e)
 
   pub fmt1-high : 4096 ≤ value → refuses (5 ∷ 0 ∷ value ∷ []) ≡ readFmt1 value
   unfolding readFmt1

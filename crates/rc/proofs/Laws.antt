@@ -6,7 +6,7 @@ use mathlib.Core.List.{[], _∷_}
 use mathlib.Core.Logic.{_⊎_, inl, inr, ⊎-elim, _↔_}
 use Prim.Native.Nat.{ℕ, _+_, _-_, _*_, _/_, _%_, _^_, _≤_, _<_}
 use native.Mathlib.Omega.{arith}
-use borrow.Author.Tests.{eqb-true, eqb-false, ltb-true, ltb-false, ne-eqb}
+use borrow.Author.Tests.{eqb-true, eqb-false, ltb-true, ltb-false, eq-eqb}
 use lib.Bits.{bitOr, or-block, or-zero-r, or-shifted-r}
 use lib.Dec.{eqb, ltb}
 use lib.Pow.{shr-shr}
@@ -17,7 +17,7 @@ use Rattle.rc.specs.declared.code.Code.the-variants.{Fmt0, Warn, Fmt1, P
 use Rattle.rc.specs.Known.{isKnown}
 use Rattle.rc.specs.Code.{bit, base, readIndex, readFmt1, readFmt0, readCode, valueOf, kindOf, baseOf, indexOf, ofParts}
 use Rattle.rc.specs.Layout.{OfFmt0, OfFmt1, WellFormed}
-use Rattle.rc.proofs.Cases.{format-one, format-zero, fmt0-plain, fmt0-warning, fmt1-open, parameter, no-index, handle, session}
+use Rattle.rc.proofs.Cases.{format-one, fmt1-open, parameter, no-index, handle, session}
 
 -- ---- the bits of a value do not meet, so that joining them is adding them
 
@@ -114,7 +114,7 @@ module _ (value : ℕ) where
 opened : (value b n : ℕ) → value < 4096 → value / 128 % 2 ≡ 1 → 128 + value % 64 ≡ b → isKnown b ≡ true → value / 256 % 16 ≡ n
     → readCode value ≡ readIndex value b (bit 64 value) n
 opened value b n h t p k q =
-    sym (format-one value t) ∙ fmt1-open value h (rw p k)
+    sym (format-one value (eq-eqb (value / 128 % 2) 1 t)) ∙ fmt1-open value h (rw p k)
     ∙ (λ i. readIndex value (p i) (bit 64 value) (q i))
 
 complete-fmt0 : (value : ℕ) → OfFmt0 value → (p : Bool) → (bit 256 value && bit 2048 value) ≡ p

@@ -1,7 +1,8 @@
 // A response code taken apart, and put together again.
 ghost use mathlib.Core.Path.{_≡_};
+ghost use mathlib.Core.Bool.{_&&_};
 ghost use Prim.Native.Nat.{_*_, _%_};
-ghost use Rattle.rc.specs.Code.{baseOf, indexOf, kindOf, ofParts, readCode, readFmt1, saidCode, valueOf};
+ghost use Rattle.rc.specs.Code.{baseOf, bit, indexOf, kindOf, ofParts, readCode, readFmt1, saidCode, valueOf};
 use crate::known::known;
 use base::code::TpmRc;
 use base::error::TpmError;
@@ -30,19 +31,31 @@ pub fn read(rc: TpmRc) -> Answer
     ensures { λ r. ⌜ saidCode r ≡ readCode (rc .0) ⌝ }
 {
     let value = rc.0;
-    if value / 128 % 2 == 1 {
+    if is_fmt1(value) {
         return read_fmt1(rc);
     }
     if !known(value) {
         return Answer::Refused(rc.refused(0));
     }
-    if value / 256 % 2 == 0 {
-        return Answer::Code(Code::Fmt0(TpmRcBase(value)));
+    if is_warning(value) {
+        Answer::Code(Code::Warn(TpmRcBase(value)))
+    } else {
+        Answer::Code(Code::Fmt0(TpmRcBase(value)))
     }
-    if value / 2048 % 2 == 0 {
-        return Answer::Code(Code::Fmt0(TpmRcBase(value)));
-    }
-    Answer::Code(Code::Warn(TpmRcBase(value)))
+}
+
+// Bit 7.
+fn is_fmt1(value: u32) -> bool
+    ensures { λ r. ⌜ r ≡ bit 128 value ⌝ }
+{
+    value / 128 % 2 == 1
+}
+
+// Bits 8 and 11.
+fn is_warning(value: u32) -> bool
+    ensures { λ r. ⌜ r ≡ (bit 256 value && bit 2048 value) ⌝ }
+{
+    value / 256 % 2 == 1 && value / 2048 % 2 == 1
 }
 
 // The same of a code whose bit 7 is set: bits 0 to 5 are the base's, bit 6 is P, bits 8 to 11 are N.
