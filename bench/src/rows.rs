@@ -1,12 +1,14 @@
 //! What is measured, a row an entry.
 //!
-//! Every side of a row is a function of one shape, called through a pointer that the compiler cannot see through. So
-//! the loop around it is the same for all sides, nothing is inlined into it, and nothing is optimised away.
+//! Every side of a row is a function of one shape, that of our call, and is called through a pointer that the compiler
+//! cannot see through. So the loop around it is the same for all sides, nothing is inlined into it, and nothing is
+//! optimised away.
 
-use crate::calls::{self, Out};
+use crate::calls::{self, Data, Out};
 use crate::oracle;
 use crate::random::Random;
 use std::hint::black_box;
+use tpm2_protocol::basic::TpmBuffer;
 
 #[derive(Clone, Copy)]
 pub enum Side {
@@ -25,10 +27,24 @@ pub struct Row {
 pub static ROWS: &[Row] = &[
     Row { name: "rc read, random codes", run: |side, n| rc_read(&random_codes(), side, n) },
     Row { name: "rc read, the commonest codes", run: |side, n| rc_read(&COMMON_CODES, side, n) },
+    Row { name: "view of 32 bytes, capacity 64", run: view::<64, 32> },
+    Row { name: "view of 1,024 bytes, capacity 1,024", run: view::<1024, 1024> },
+    Row { name: "buffer extend, 64 bytes", run: extend::<64> },
+    Row { name: "buffer extend, 1,024 bytes", run: extend::<1024> },
+    Row { name: "buffer marshal, 64 bytes", run: marshal::<64> },
+    Row { name: "buffer marshal, 1,024 bytes", run: marshal::<1024> },
 ];
 
-/// Success, an initialisation and a failure, an unknown command, a value of handle 1, a retry, and an authorization that
-/// failed or is bad, of session 1.
+fn repeat(n: u64, mut call: impl FnMut(&mut Out) -> u32) {
+    let mut out = [0; 8];
+    for _ in 0..n {
+        black_box(call(black_box(&mut out)));
+    }
+}
+
+// ---- response codes
+
+/// Success, two failures, an unknown command, a bad value of handle 1, a retry, two bad authorizations of session 1.
 const COMMON_CODES: [u32; 8] = [0x000, 0x100, 0x101, 0x143, 0x184, 0x922, 0x98E, 0x9A2];
 
 fn random_codes() -> [u32; 1024] {
@@ -36,15 +52,75 @@ fn random_codes() -> [u32; 1024] {
     std::array::from_fn(|_| random.number() as u32)
 }
 
-fn rc_read<const N: usize>(codes: &[u32; N], side: Side, n: u64) {
+fn rc_read<const COUNT: usize>(codes: &[u32; COUNT], side: Side, n: u64) {
     let call: fn(u32, &mut Out) -> u32 = match side {
-        Side::Ours => |code, out| calls::rc_read(code, out),
+        Side::Ours => calls::rc_read,
         Side::Rust => oracle::rc_read,
         Side::Empty => |_, _| 0,
     };
     let call = black_box(call);
-    let mut out = [0; 8];
-    for &code in codes.iter().cycle().take(n as usize) {
-        black_box(call(code, black_box(&mut out)));
+    let mut at = 0;
+    repeat(n, |out| {
+        at = (at + 1) % COUNT;
+        call(codes[at], out)
+    });
+}
+
+// ---- a TPM2B of LEN bytes, its size judged
+
+fn view<const CAPACITY: usize, const LEN: usize>(side: Side, n: u64) {
+    let call: fn(usize, &[u8], &mut Out) -> u32 = match side {
+        Side::Ours => calls::tpm2b_validate_prefix,
+        Side::Rust => |_, s, out| oracle::tpm2b_validate_prefix::<CAPACITY>(s, out),
+        Side::Empty => |_, _, _| 0,
+    };
+    let call = black_box(call);
+    let bytes = [(LEN as u16).to_be_bytes().as_slice(), &[0x5A; LEN]].concat();
+    repeat(n, |out| call(CAPACITY, black_box(&bytes), out));
+}
+
+// ---- an empty buffer, filled to its capacity
+
+fn extend<const N: usize>(side: Side, n: u64)
+where
+    [u8; N]: Data,
+{
+    match side {
+        Side::Ours => extend_by::<_, N>(n, [0; N], Data::extend),
+        Side::Rust => extend_by::<_, N>(n, TpmBuffer::<N>::new(), |_, buffer, s, out| {
+            *buffer = TpmBuffer::new();
+            oracle::buffer_extend(buffer, s, out)
+        }),
+        Side::Empty => extend_by::<_, N>(n, (), |_, _, _, _| 0),
     }
+}
+
+/// The Rust's buffer knows its own size.
+fn extend_by<B, const N: usize>(n: u64, mut buffer: B, call: fn(u16, &mut B, &[u8], &mut Out) -> u32) {
+    let call = black_box(call);
+    let given = [0x5A; N];
+    repeat(n, |out| call(0, black_box(&mut buffer), black_box(&given), out));
+}
+
+// ---- a full buffer, written to room that just holds it
+
+fn marshal<const N: usize>(side: Side, n: u64)
+where
+    [u8; N]: Data,
+{
+    let data = [0x5A; N];
+    match side {
+        Side::Ours => marshal_by::<_, N>(n, data, Data::marshal),
+        Side::Rust => {
+            let buffer = oracle::buffer::<N>(N as u16, &data).expect("the data is as long as the capacity");
+            marshal_by::<_, N>(n, buffer, |_, buffer, room, out| oracle::buffer_marshal(buffer, room, out));
+        }
+        Side::Empty => marshal_by::<_, N>(n, (), |_, _, _, _| 0),
+    }
+}
+
+fn marshal_by<B, const N: usize>(n: u64, buffer: B, call: fn(u16, &B, &mut [u8], &mut Out) -> u32) {
+    let call = black_box(call);
+    let mut room = vec![0; 2 + N];
+    repeat(n, |out| call(N as u16, black_box(&buffer), black_box(&mut room), out));
 }

@@ -134,8 +134,15 @@ impl Answer {
 
     /// Makes a call on what is lent, and keeps the number that it returns.
     pub fn call<const N: usize>(&mut self, call: impl FnOnce([&mut [u8]; N], &mut Out) -> u32) {
+        self.try_call(|lent, out| Some(call(lent, out)));
+    }
+
+    /// The same with a call that cannot always be made; tells whether it was.
+    pub fn try_call<const N: usize>(&mut self, call: impl FnOnce([&mut [u8]; N], &mut Out) -> Option<u32>) -> bool {
         let rooms: &mut [Room; N] = self.rooms.as_mut_slice().try_into().expect("a call takes all that is lent");
-        self.said.call(|out| call(rooms.each_mut().map(Room::bytes_mut), out));
+        let number = call(rooms.each_mut().map(Room::bytes_mut), &mut self.said.out);
+        self.said.number = number.unwrap_or(self.said.number);
+        number.is_some()
     }
 
     /// The bytes of a lent slice, counted from 0.

@@ -1,40 +1,104 @@
 //! The calls of the proved library, as `crates/capi` exports them: the only unsafe code of the driver.
 //!
 //! One convention for all: bytes and their length go in, the refusal's number comes out (0: an answer), and the lent
-//! array takes the answer's numbers or the refusal's fields.
+//! array takes the answer's numbers or the refusal's fields. Bytes in an array go in without their length.
 
 /// The lent array.
 pub type Out = [u64; 8];
 
-unsafe extern "C" {
-    fn skein_read_u16(s: *const u8, len: usize, place: usize, out: &mut Out) -> u32;
-    fn skein_read_u32(s: *const u8, len: usize, place: usize, out: &mut Out) -> u32;
-    fn skein_write_u16(s: *mut u8, len: usize, place: usize, n: u16, out: &mut Out) -> u32;
-    fn skein_write_u32(s: *mut u8, len: usize, place: usize, n: u32, out: &mut Out) -> u32;
-
-    // these are lent nothing but the array
-    #[link_name = "skein_rc_read"]
-    pub safe fn rc_read(code: u32, out: &mut Out) -> u32;
-    #[link_name = "skein_rc_value"]
-    pub safe fn rc_value(kind: u32, base: u32, index: u8, out: &mut Out) -> u32;
+/// A slice as C takes it: where it starts, and its length.
+trait Lent {
+    type Start;
+    fn lent(self) -> (Self::Start, usize);
 }
 
-pub fn read_u16(s: &[u8], place: usize, out: &mut Out) -> u32 {
-    // SAFETY: pointer and length are those of one slice, borrowed for the call; so in every call below.
-    unsafe { skein_read_u16(s.as_ptr(), s.len(), place, out) }
+impl Lent for &[u8] {
+    type Start = *const u8;
+    fn lent(self) -> (Self::Start, usize) {
+        (self.as_ptr(), self.len())
+    }
 }
 
-pub fn read_u32(s: &[u8], place: usize, out: &mut Out) -> u32 {
-    // SAFETY: as above.
-    unsafe { skein_read_u32(s.as_ptr(), s.len(), place, out) }
+impl Lent for &mut [u8] {
+    type Start = *mut u8;
+    fn lent(self) -> (Self::Start, usize) {
+        (self.as_mut_ptr(), self.len())
+    }
 }
 
-pub fn write_u16(s: &mut [u8], place: usize, n: u16, out: &mut Out) -> u32 {
-    // SAFETY: as above.
-    unsafe { skein_write_u16(s.as_mut_ptr(), s.len(), place, n, out) }
+/// Makes a safe function of each of the library's that is named here without its prefix. The brackets hold the slice
+/// that it takes, if it takes one; the lent array is always last.
+macro_rules! calls {
+    ($prefix:expr; $($vis:vis fn $name:ident(
+        $($before:ident: $b:ty,)* [$($s:ident: $slice:ty)?] $(, $after:ident: $a:ty)*
+    );)*) => {$(
+        $vis fn $name($($before: $b,)* $($s: $slice,)? $($after: $a,)* out: &mut Out) -> u32 {
+            unsafe extern "C" {
+                #[link_name = concat!($prefix, stringify!($name))]
+                fn call(
+                    $($before: $b,)* $($s: <$slice as Lent>::Start, len: usize,)? $($after: $a,)* out: &mut Out
+                ) -> u32;
+            }
+            $(let ($s, len) = $s.lent();)?
+            // SAFETY: the types are those that crates/capi declares; start and length are those of one slice, which is
+            // borrowed for the call, as is every array.
+            unsafe { call($($before,)* $($s, len,)? $($after,)* out) }
+        }
+    )*};
 }
 
-pub fn write_u32(s: &mut [u8], place: usize, n: u32, out: &mut Out) -> u32 {
-    // SAFETY: as above.
-    unsafe { skein_write_u32(s.as_mut_ptr(), s.len(), place, n, out) }
+calls! {
+    "skein_";
+
+    pub fn read_u16([s: &[u8]], place: usize);
+    pub fn read_u32([s: &[u8]], place: usize);
+    pub fn write_u16([s: &mut [u8]], place: usize, n: u16);
+    pub fn write_u32([s: &mut [u8]], place: usize, n: u32);
+
+    pub fn rc_read(code: u32, []);
+    pub fn rc_value(kind: u32, base: u32, index: u8, []);
+
+    pub fn tpm2b_validate_prefix(capacity: usize, [s: &[u8]]);
+    pub fn tpm2b_validate(capacity: usize, [s: &[u8]]);
+    pub fn tpm2b_cast(capacity: usize, [s: &[u8]]);
+    pub fn tpm2b_cast_prefix(capacity: usize, [s: &[u8]]);
+    pub fn tpm2b_size([s: &[u8]]);
+    pub fn tpm2b_data([s: &[u8]]);
+    pub fn tpm2b_is_empty([s: &[u8]]);
+    pub fn tpm2b_len([s: &[u8]]);
 }
+
+/// The data of a fixed buffer, an array as long as the capacity, and the calls of that capacity.
+pub trait Data: Sized {
+    fn new(data: &mut Self, out: &mut Out) -> u32;
+    fn push(size: u16, data: &mut Self, byte: u8, out: &mut Out) -> u32;
+    fn extend(size: u16, data: &mut Self, s: &[u8], out: &mut Out) -> u32;
+    fn held(size: u16, data: &Self, room: &mut [u8], out: &mut Out) -> u32;
+    fn eq(size: u16, data: &Self, other_size: u16, other: &Self, out: &mut Out) -> u32;
+    fn len(size: u16, out: &mut Out) -> u32;
+    fn marshal(size: u16, data: &Self, room: &mut [u8], out: &mut Out) -> u32;
+    fn unmarshal(s: &[u8], data: &mut Self, out: &mut Out) -> u32;
+    fn from_slice(s: &[u8], data: &mut Self, out: &mut Out) -> u32;
+}
+
+macro_rules! capacities {
+    ($($capacity:literal)*) => {$(
+        impl Data for [u8; $capacity] {
+            calls! {
+                concat!("skein_buffer", $capacity, "_");
+
+                fn new(data: &mut [u8; $capacity], []);
+                fn push(size: u16, data: &mut [u8; $capacity], byte: u8, []);
+                fn extend(size: u16, data: &mut [u8; $capacity], [s: &[u8]]);
+                fn held(size: u16, data: &[u8; $capacity], [room: &mut [u8]]);
+                fn eq(size: u16, data: &[u8; $capacity], other_size: u16, other: &[u8; $capacity], []);
+                fn len(size: u16, []);
+                fn marshal(size: u16, data: &[u8; $capacity], [room: &mut [u8]]);
+                fn unmarshal([s: &[u8]], data: &mut [u8; $capacity]);
+                fn from_slice([s: &[u8]], data: &mut [u8; $capacity]);
+            }
+        }
+    )*};
+}
+
+capacities!(64 1024);

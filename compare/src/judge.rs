@@ -34,7 +34,7 @@ pub const PRINTED: u64 = 5;
 
 /// The count of one call.
 pub struct Tally {
-    name: &'static str,
+    name: String,
     calls: u64,
     mismatches: u64,
     /// How often each judge spoke.
@@ -44,9 +44,9 @@ pub struct Tally {
 }
 
 impl Tally {
-    pub fn new<C: Case>(name: &'static str) -> Self {
+    pub fn new<C: Case>(name: impl Into<String>) -> Self {
         Self {
-            name,
+            name: name.into(),
             calls: 0,
             mismatches: 0,
             spoke: C::JUDGES.iter().map(|judge| (judge.name, 0)).collect(),

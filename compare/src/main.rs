@@ -1,5 +1,5 @@
-//! Compares the calls of the proved library with Rust: with its own conversions, and, compiled with `--cfg oracle`,
-//! with the crate tpm2-protocol.
+//! Compares the calls of the proved library with Rust's own conversions, with document 01's rules written out, and,
+//! compiled with `--cfg oracle`, with the crate tpm2-protocol.
 //!
 //! usage: driver [--seed N] [--thin] [SUITE..]
 //!                                        compares; the status is 1 if anything differs. Thinned, it leaves out most of
@@ -14,13 +14,16 @@
 
 mod answer;
 mod calls;
+mod edges;
 mod field;
+mod fixed;
 mod judge;
 #[cfg(oracle)]
 mod oracle;
 mod random;
 mod rc;
 mod shrink;
+mod view;
 
 use judge::Tally;
 use random::Random;
@@ -34,9 +37,11 @@ struct Suite {
     list: fn(&mut Random),
 }
 
-static SUITES: [Suite; 2] = [
+static SUITES: [Suite; 4] = [
     Suite { name: "field", run: |random, _| field::run(random), list: field::list },
     Suite { name: "rc", run: rc::run, list: rc::list },
+    Suite { name: "view", run: |random, _| view::run(random), list: view::list },
+    Suite { name: "fixed", run: |random, _| fixed::run(random), list: |_| () },
 ];
 
 /// The seed of a run that names none, and of the fixed list.

@@ -11,12 +11,16 @@ pub fn numbers(n: u64) -> impl Iterator<Item = u64> {
 /// The bytes with a run of them left out, the longest runs first, then with one byte made 0.
 pub fn bytes(s: &[u8]) -> impl Iterator<Item = Vec<u8>> {
     let shorter = halves(s.len() as u64).flat_map(|run| without(s, run as usize));
-    let zeroed = (0..s.len()).filter(|&at| s[at] != 0).map(|at| {
+    shorter.chain(zeroed(s))
+}
+
+/// The bytes with one of them made 0.
+pub fn zeroed(s: &[u8]) -> impl Iterator<Item = Vec<u8>> {
+    (0..s.len()).filter(|&at| s[at] != 0).map(|at| {
         let mut t = s.to_vec();
         t[at] = 0;
         t
-    });
-    shorter.chain(zeroed)
+    })
 }
 
 fn without(s: &[u8], run: usize) -> impl Iterator<Item = Vec<u8>> {

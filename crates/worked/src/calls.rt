@@ -33,7 +33,19 @@ fn run(s: &[u8], bytes: &mut [u8]) {
     }
 }
 
-fn call(name: &[u8], bytes: &mut [u8], place: usize, value: u64, out: &mut [u64; 8]) -> Told {
+// The call of that name, on the bytes and the two numbers of the line.
+fn call(name: &[u8], bytes: &mut [u8], first: usize, second: u64, out: &mut [u64; 8]) -> Told {
+    let told = field(name, bytes, first, second, out);
+    if told.known {
+        return told;
+    }
+    if check::same(name, b"rc_read") {
+        return read(4, capi::code::skein_rc_read((first % 4294967296) as u32, out));
+    }
+    view(name, bytes, first, out)
+}
+
+fn field(name: &[u8], bytes: &mut [u8], place: usize, value: u64, out: &mut [u64; 8]) -> Told {
     if check::same(name, b"read_u16") {
         return read(1, capi::field::skein_read_u16(bytes, place, out));
     }
@@ -46,6 +58,38 @@ fn call(name: &[u8], bytes: &mut [u8], place: usize, value: u64, out: &mut [u64;
     if check::same(name, b"write_u32") {
         return wrote(capi::field::skein_write_u32(bytes, place, (value % 4294967296) as u32, out));
     }
+    unknown()
+}
+
+fn view(name: &[u8], bytes: &[u8], capacity: usize, out: &mut [u64; 8]) -> Told {
+    if check::same(name, b"tpm2b_validate_prefix") {
+        return read(1, capi::tpm2b::skein_tpm2b_validate_prefix(capacity, bytes, out));
+    }
+    if check::same(name, b"tpm2b_validate") {
+        return read(0, capi::tpm2b::skein_tpm2b_validate(capacity, bytes, out));
+    }
+    if check::same(name, b"tpm2b_cast") {
+        return read(2, capi::tpm2b::skein_tpm2b_cast(capacity, bytes, out));
+    }
+    if check::same(name, b"tpm2b_cast_prefix") {
+        return read(4, capi::tpm2b::skein_tpm2b_cast_prefix(capacity, bytes, out));
+    }
+    if check::same(name, b"tpm2b_size") {
+        return read(1, capi::tpm2b::skein_tpm2b_size(bytes, out));
+    }
+    if check::same(name, b"tpm2b_data") {
+        return read(2, capi::tpm2b::skein_tpm2b_data(bytes, out));
+    }
+    if check::same(name, b"tpm2b_is_empty") {
+        return read(1, capi::tpm2b::skein_tpm2b_is_empty(bytes, out));
+    }
+    if check::same(name, b"tpm2b_len") {
+        return read(1, capi::tpm2b::skein_tpm2b_len(bytes, out));
+    }
+    unknown()
+}
+
+fn unknown() -> Told {
     Told {
         number: 0,
         count: 0,
