@@ -11,11 +11,11 @@ use lib.Dec.{eqb, leb}
 use lib.ListN.{length, take, drop, set, replicate, length-append, length-drop}
 use lib.Seq.{length-take-le, drop-append-add, drop-drop}
 use Rattle.base.specs.Bytes.{bytes}
-use Rattle.base.specs.Said.{Said, gives, refuses, after, done}
+use Rattle.base.specs.Said.{Said, gives, refuses, after, done, then}
 use Rattle.base.proofs.Bytes.{length-bytes, two-bytes}
 use Rattle.base.proofs.Checks.{needs-gives, gives-injective}
 use Rattle.base.proofs.Lists.{stored}
-use Rattle.buffer.specs.Fixed.{Buffer, buffer, put, new, count, emitted, over, equal, sameBytes, grown, extended, unmarshalled}
+use Rattle.buffer.specs.Fixed.{Buffer, buffer, put, new, count, emitted, over, equal, sameBytes, grown, extended, unmarshalled, sizeSaid, roomAfter}
 use Rattle.buffer.specs.View.{prefix}
 use Rattle.buffer.proofs.Views.{prefix-fits}
 
@@ -123,6 +123,28 @@ module _ (capacity : ℕ) (given : List ℕ) (b : Buffer) where
   extend-done n room e p =
       let size = grown-size capacity (b .size) (length given) e in
       rw (← e) (refl, λ i. buffer n ((p ∙ ap (λ (k : ℕ). take (b .size) (b .room) ++ (given ++ drop k (b .room))) (sym (size .0))) i))
+
+-- the same where the room is lent
+module _ (capacity : ℕ) (given : List ℕ) (b : Buffer) where
+  pub size-said : grown capacity (b .size) (length given) ≡ sizeSaid (extended capacity given b)
+  unfolding extended
+  size-said = by (grown capacity (b .size) (length given))
+    where
+      by : (g : Said ℕ) → g ≡ sizeSaid (then g λ n. gives (put given b n))
+      by (gives n) = refl
+      by (refuses why) = refl
+
+  pub lent-refused : {why : List ℕ} → refuses why ≡ grown capacity (b .size) (length given) → b .room ≡ roomAfter (b .room) (extended capacity given b)
+  unfolding extended
+  lent-refused e = rw (← e)
+
+  pub lent-done : {n : ℕ} (room : List ℕ) → gives n ≡ grown capacity (b .size) (length given)
+      → room ≡ take (b .size) (b .room) ++ (given ++ drop (b .size + length given) (b .room))
+      → room ≡ roomAfter (b .room) (extended capacity given b)
+  unfolding extended
+  lent-done room e p =
+      let size = grown-size capacity (b .size) (length given) e in
+      rw (← e) (p ∙ ap (λ (k : ℕ). take (b .size) (b .room) ++ (given ++ drop k (b .room))) (sym (size .0)))
 
 -- ---- reading
 

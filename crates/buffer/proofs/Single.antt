@@ -53,6 +53,12 @@ use Rattle.buffer.proofs.fixed64.TpmBuffer64.marshal.Kinds as marshal-6
 use Rattle.buffer.proofs.fixed64.TpmBuffer64.marshal.Reads as marshal-64-reads
 use Rattle.buffer.proofs.fixed64.TpmBuffer64.unmarshal.Kinds as unmarshal-64-kinds
 use Rattle.buffer.proofs.fixed64.TpmBuffer64.unmarshal.Reads as unmarshal-64-reads
+use Rattle.buffer.proofs.fixed64.TpmBuffer64.extend_lent.Kinds as extend-lent-64-kinds
+use Rattle.buffer.proofs.fixed64.TpmBuffer64.extend_lent.Reads as extend-lent-64-reads
+use Rattle.buffer.proofs.fixed64.TpmBuffer64.copy_out_lent.Kinds as copy-out-lent-64-kinds
+use Rattle.buffer.proofs.fixed64.TpmBuffer64.copy_out_lent.Reads as copy-out-lent-64-reads
+use Rattle.buffer.proofs.fixed64.TpmBuffer64.marshal_lent.Kinds as marshal-lent-64-kinds
+use Rattle.buffer.proofs.fixed64.TpmBuffer64.marshal_lent.Reads as marshal-lent-64-reads
 use Rattle.buffer.proofs.fixed1024.TpmBuffer1024.new.Kinds as new-1024-kinds
 use Rattle.buffer.proofs.fixed1024.TpmBuffer1024.new.Reads as new-1024-reads
 use Rattle.buffer.proofs.fixed1024.TpmBuffer1024.try_push.Kinds as try-push-1024-kinds
@@ -71,6 +77,12 @@ use Rattle.buffer.proofs.fixed1024.TpmBuffer1024.marshal.Kinds as marsh
 use Rattle.buffer.proofs.fixed1024.TpmBuffer1024.marshal.Reads as marshal-1024-reads
 use Rattle.buffer.proofs.fixed1024.TpmBuffer1024.unmarshal.Kinds as unmarshal-1024-kinds
 use Rattle.buffer.proofs.fixed1024.TpmBuffer1024.unmarshal.Reads as unmarshal-1024-reads
+use Rattle.buffer.proofs.fixed1024.TpmBuffer1024.extend_lent.Kinds as extend-lent-1024-kinds
+use Rattle.buffer.proofs.fixed1024.TpmBuffer1024.extend_lent.Reads as extend-lent-1024-reads
+use Rattle.buffer.proofs.fixed1024.TpmBuffer1024.copy_out_lent.Kinds as copy-out-lent-1024-kinds
+use Rattle.buffer.proofs.fixed1024.TpmBuffer1024.copy_out_lent.Reads as copy-out-lent-1024-reads
+use Rattle.buffer.proofs.fixed1024.TpmBuffer1024.marshal_lent.Kinds as marshal-lent-1024-kinds
+use Rattle.buffer.proofs.fixed1024.TpmBuffer1024.marshal_lent.Reads as marshal-lent-1024-reads
 
 -- ---- the view
 
@@ -203,3 +215,21 @@ unmarshal-1024 κs a x y v w p q =
     let answer = saidCount-injective (x .answer) (y .answer) (p .0 ∙ sym (q .0)) in
     let buffer = same1024 (x .buffer) (y .buffer) (p .1 ∙ sym (q .1)) in
     (λ i. record { answer = answer i; buffer = buffer i }, refl)
+
+extend-lent-64 : Single 2 extend-lent-64-kinds.ps extend-lent-64-kinds.r extend-lent-64-reads.Post
+extend-lent-64 κs a x y v w p q = (saidCount-injective x y (p .0 ∙ sym (q .0)), λ i. (tt, ((p .1 ∙ sym (q .1)) i, (tt, tt))))
+
+copy-out-lent-64 : Single 2 copy-out-lent-64-kinds.ps copy-out-lent-64-kinds.r copy-out-lent-64-reads.Post
+copy-out-lent-64 κs a x y v w p q = (saidCount-injective x y (p .0 ∙ sym (q .0)), λ i. (tt, (tt, ((p .1 ∙ sym (q .1)) i, tt))))
+
+marshal-lent-64 : Single 2 marshal-lent-64-kinds.ps marshal-lent-64-kinds.r marshal-lent-64-reads.Post
+marshal-lent-64 κs a x y v w p q = (saidCount-injective x y (p .0 ∙ sym (q .0)), λ i. (tt, (tt, ((p .1 ∙ sym (q .1)) i, tt))))
+
+extend-lent-1024 : Single 2 extend-lent-1024-kinds.ps extend-lent-1024-kinds.r extend-lent-1024-reads.Post
+extend-lent-1024 κs a x y v w p q = (saidCount-injective x y (p .0 ∙ sym (q .0)), λ i. (tt, ((p .1 ∙ sym (q .1)) i, (tt, tt))))
+
+copy-out-lent-1024 : Single 2 copy-out-lent-1024-kinds.ps copy-out-lent-1024-kinds.r copy-out-lent-1024-reads.Post
+copy-out-lent-1024 κs a x y v w p q = (saidCount-injective x y (p .0 ∙ sym (q .0)), λ i. (tt, (tt, ((p .1 ∙ sym (q .1)) i, tt))))
+
+marshal-lent-1024 : Single 2 marshal-lent-1024-kinds.ps marshal-lent-1024-kinds.r marshal-lent-1024-reads.Post
+marshal-lent-1024 κs a x y v w p q = (saidCount-injective x y (p .0 ∙ sym (q .0)), λ i. (tt, (tt, ((p .1 ∙ sym (q .1)) i, tt))))

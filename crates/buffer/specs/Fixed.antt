@@ -6,7 +6,7 @@ use mathlib.Core.List.{List, [], _∷_, _++_}
 use lib.Dec.{eqb, leb}
 use lib.ListN.{length, take, drop, replicate}
 use Rattle.base.specs.Bytes.{bytes}
-use Rattle.base.specs.Said.{Said, gives, needs, then}
+use Rattle.base.specs.Said.{Said, gives, refuses, needs, then}
 use Rattle.buffer.specs.View.{prefix}
 
 pub record Buffer : Type 0 where
@@ -41,6 +41,14 @@ put given b n = record { size = n; room = take (b .size) (b .room) ++ (given ++ 
 
 unfoldable pub extended : ℕ → List ℕ → Buffer → Said Buffer
 extended capacity given b = then (grown capacity (b .size) (length given)) λ n. gives (put given b n)
+
+-- of a call on a record whose room is lent: the size that it answers, and the room later, as it was where refused
+abbrev pub sizeSaid : Said Buffer → Said ℕ
+sizeSaid said = then said λ b. gives (b .size)
+
+abbrev pub roomAfter : List ℕ → Said Buffer → List ℕ
+roomAfter old (gives b) = b .room
+roomAfter old (refuses why) = old
 
 -- the bytes that a TPM2B takes
 unfoldable pub wireLength : ℕ → ℕ → Said ℕ

@@ -4,7 +4,7 @@ ghost use mathlib.Core.List.{[], _∷_};
 ghost use Prim.Native.Nat.{_+_};
 ghost use Rattle.base.specs.Answer.{saidCount, saidFlag, saidOutcome};
 ghost use Rattle.base.specs.Said.{after, done};
-ghost use Rattle.buffer.specs.Fixed.{copied, count, equal, extended, marshalled, new, unmarshalled, wireLength};
+ghost use Rattle.buffer.specs.Fixed.{buffer, copied, count, equal, extended, marshalled, new, roomAfter, sizeSaid, unmarshalled, wireLength};
 ghost use Rattle.buffer.specs.View.{prefix};
 ghost use Rattle.buffer.specs.Capacities.{of64};
 use crate::room;
@@ -139,5 +139,32 @@ impl TpmBuffer64 {
                 }
             }
         }
+    }
+
+    // Three of these on a record whose room is lent: nothing is copied but the bytes that move.
+    pub fn extend_lent(size: u16, data: &mut [u8; 64], given: &[u8]) -> Count
+        ensures { λ r. ⌜ saidCount r ≡ sizeSaid (extended 64 (now (given .entry)) (buffer size (now («data» .entry)))) ⌝ }
+        ensures { λ r. ⌜ now («data» .exit) ≡ roomAfter (now («data» .entry)) (extended 64 (now (given .entry)) (buffer size (now («data» .entry)))) ⌝ }
+    {
+        let at = size as usize;
+        let grown = room::grow(64, at, given.len());
+        if let Count::Is(_) = grown {
+            room::put(data, at, given);
+        }
+        grown
+    }
+
+    pub fn copy_out_lent(size: u16, data: &[u8; 64], lent: &mut [u8]) -> Count
+        ensures { λ r. ⌜ saidCount r ≡ count size (copied 64 (buffer size (now («data» .entry))) (now (lent .entry))) ⌝ }
+        ensures { λ r. ⌜ now (lent .exit) ≡ after (now (lent .entry)) (copied 64 (buffer size (now («data» .entry))) (now (lent .entry))) ⌝ }
+    {
+        room::copy_out(size as usize, data, lent)
+    }
+
+    pub fn marshal_lent(size: u16, data: &[u8; 64], lent: &mut [u8]) -> Count
+        ensures { λ r. ⌜ saidCount r ≡ count (2 + size) (marshalled 64 (buffer size (now («data» .entry))) (now (lent .entry))) ⌝ }
+        ensures { λ r. ⌜ now (lent .exit) ≡ after (now (lent .entry)) (marshalled 64 (buffer size (now («data» .entry))) (now (lent .entry))) ⌝ }
+    {
+        room::marshal(size as usize, data, lent)
     }
 }

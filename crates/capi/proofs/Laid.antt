@@ -4,10 +4,10 @@ use mathlib.Core.Path.{_≡_, refl, sym, _∙_, ap, subst}
 use mathlib.Core.List.{List}
 use Prim.Native.Nat.{ℕ, _-_}
 use Rattle.base.specs.Said.{Said, gives, refuses, done, after}
-use Rattle.buffer.specs.Fixed.{Buffer, new, unmarshalled}
+use Rattle.buffer.specs.Fixed.{Buffer, new, roomAfter, unmarshalled}
 use Rattle.buffer.specs.View.{prefix}
 use Rattle.buffer.proofs.Rooms.{read-done}
-use Rattle.capi.specs.Buffer.{laid, roomAfter, sizeOf}
+use Rattle.capi.specs.Buffer.{laid, sizeOf}
 use Rattle.capi.specs.Out.{Reports}
 
 laid-said : (b : Buffer) (said : Said Buffer) → laid (done said) (after b said) ≡ said

@@ -12,11 +12,6 @@ sizeOf b = b .size ∷ []
 abbrev pub sizeAndWire : ℕ → List ℕ
 sizeAndWire n = (n - 2) ∷ n ∷ []
 
--- the lent room later: that of the buffer where there is one, and else as it was
-abbrev pub roomAfter : List ℕ → Said Buffer → List ℕ
-roomAfter old (gives b) = b .room
-roomAfter old (refuses why) = old
-
 -- an answer with the buffer beside it
 abbrev pub laid : Said (Unit {0}) → Buffer → Said Buffer
 laid (gives u) b = gives b

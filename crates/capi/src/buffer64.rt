@@ -5,9 +5,9 @@ ghost use Prim.Native.Nat.{_+_};
 ghost use Rattle.base.specs.Answer.{saidOutcome};
 ghost use Rattle.base.specs.Said.{after, gives};
 ghost use Rattle.buffer.specs.Capacities.{of64};
-ghost use Rattle.buffer.specs.Fixed.{buffer as record-of, copied, count, equal, extended, marshalled, new, unmarshalled, wireLength};
+ghost use Rattle.buffer.specs.Fixed.{buffer as record-of, copied, count, equal, extended, marshalled, new, roomAfter, sizeSaid, unmarshalled, wireLength};
 ghost use Rattle.buffer.specs.View.{prefix};
-ghost use Rattle.capi.specs.Buffer.{laid, roomAfter, sizeAndWire, sizeOf};
+ghost use Rattle.capi.specs.Buffer.{laid, sizeAndWire, sizeOf};
 ghost use Rattle.capi.specs.Out.{Reports, one, truth};
 use crate::out;
 use crate::out::Numbers;
@@ -55,7 +55,7 @@ pub extern "C" fn skein_buffer64_held(
     ensures { λ r. ⌜ Reports one (count size (copied 64 (record-of size (now («data» .entry))) (now (room .entry)))) (now (out .entry)) (now (out .exit)) r ⌝ }
     ensures { λ r. ⌜ now (room .exit) ≡ after (now (room .entry)) (copied 64 (record-of size (now («data» .entry))) (now (room .entry))) ⌝ }
 {
-    out::count(record(size, data).copy_out(room), out)
+    out::count(TpmBuffer64::copy_out_lent(size, data, room), out)
 }
 
 #[no_mangle]
@@ -68,7 +68,7 @@ pub extern "C" fn skein_buffer64_marshal(
     ensures { λ r. ⌜ Reports one (count (2 + size) (marshalled 64 (record-of size (now («data» .entry))) (now (room .entry)))) (now (out .entry)) (now (out .exit)) r ⌝ }
     ensures { λ r. ⌜ now (room .exit) ≡ after (now (room .entry)) (marshalled 64 (record-of size (now («data» .entry))) (now (room .entry))) ⌝ }
 {
-    out::count(record(size, data).marshal(room), out)
+    out::count(TpmBuffer64::marshal_lent(size, data, room), out)
 }
 
 #[no_mangle]
@@ -122,10 +122,10 @@ pub extern "C" fn skein_buffer64_extend(
     s: &[u8],
     out: &mut Numbers,
 ) -> u32
-    ensures { λ r. ⌜ Reports sizeOf (extended 64 (now (s .entry)) (record-of size (now («data» .entry)))) (now (out .entry)) (now (out .exit)) r ⌝ }
+    ensures { λ r. ⌜ Reports one (sizeSaid (extended 64 (now (s .entry)) (record-of size (now («data» .entry))))) (now (out .entry)) (now (out .exit)) r ⌝ }
     ensures { λ r. ⌜ now («data» .exit) ≡ roomAfter (now («data» .entry)) (extended 64 (now (s .entry)) (record-of size (now («data» .entry)))) ⌝ }
 {
-    lay(record(size, data).try_extend_from_slice(s), data, out)
+    out::count(TpmBuffer64::extend_lent(size, data, s), out)
 }
 
 #[no_mangle]

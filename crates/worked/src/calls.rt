@@ -40,7 +40,10 @@ fn call(name: &[u8], bytes: &mut [u8], first: usize, second: u64, out: &mut [u64
         return told;
     }
     if check::same(name, b"rc_read") {
-        return read(4, capi::code::skein_rc_read((first % 4294967296) as u32, out));
+        return read(
+            4,
+            capi::code::skein_rc_read((first % 4294967296) as u32, out),
+        );
     }
     view(name, bytes, first, out)
 }
@@ -63,7 +66,10 @@ fn field(name: &[u8], bytes: &mut [u8], place: usize, value: u64, out: &mut [u64
 
 fn view(name: &[u8], bytes: &[u8], capacity: usize, out: &mut [u64; 8]) -> Told {
     if check::same(name, b"tpm2b_validate_prefix") {
-        return read(1, capi::tpm2b::skein_tpm2b_validate_prefix(capacity, bytes, out));
+        return read(
+            1,
+            capi::tpm2b::skein_tpm2b_validate_prefix(capacity, bytes, out),
+        );
     }
     if check::same(name, b"tpm2b_validate") {
         return read(0, capi::tpm2b::skein_tpm2b_validate(capacity, bytes, out));
@@ -72,7 +78,10 @@ fn view(name: &[u8], bytes: &[u8], capacity: usize, out: &mut [u64; 8]) -> Told 
         return read(2, capi::tpm2b::skein_tpm2b_cast(capacity, bytes, out));
     }
     if check::same(name, b"tpm2b_cast_prefix") {
-        return read(4, capi::tpm2b::skein_tpm2b_cast_prefix(capacity, bytes, out));
+        return read(
+            4,
+            capi::tpm2b::skein_tpm2b_cast_prefix(capacity, bytes, out),
+        );
     }
     if check::same(name, b"tpm2b_size") {
         return read(1, capi::tpm2b::skein_tpm2b_size(bytes, out));

@@ -4,8 +4,9 @@ use mathlib.Core.Path.{ap}
 use denote.Ref.{now}
 use Rattle.base.specs.Answer.{saidCount}
 use Rattle.base.proofs.Answers.{learnt}
+use Rattle.buffer.specs.Fixed.{roomAfter}
 use Rattle.buffer.proofs.Rooms.{read-refused}
-use Rattle.capi.specs.Buffer.{roomAfter, sizeAndWire}
+use Rattle.capi.specs.Buffer.{sizeAndWire}
 use Rattle.capi.proofs.Laid.{size-read, room-read}
 use Rattle.capi.proofs.Reported.{answered, refused}
 use borrow.Author.Needs.{needs}
