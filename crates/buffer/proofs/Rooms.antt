@@ -12,9 +12,11 @@ use lib.ListN.{length, take, drop, set, replicate, length-append, length-drop}
 use lib.Seq.{length-take-le, drop-append-add, drop-drop}
 use Rattle.base.specs.Bytes.{bytes}
 use Rattle.base.specs.Said.{Said, gives, refuses, after, done, then}
+use Rattle.base.specs.Tpm2b.{tpm2b}
 use Rattle.base.proofs.Bytes.{length-bytes, two-bytes}
 use Rattle.base.proofs.Checks.{needs-gives, gives-injective}
 use Rattle.base.proofs.Lists.{stored}
+use Rattle.base.proofs.Tpm2b.{length-tpm2b}
 use Rattle.buffer.specs.Fixed.{Buffer, buffer, put, new, count, emitted, over, equal, sameBytes, grown, extended, unmarshalled, sizeSaid, roomAfter}
 use Rattle.buffer.specs.View.{prefix}
 use Rattle.buffer.proofs.Views.{prefix-fits}
@@ -40,25 +42,31 @@ module _ (capacity size : ℕ) (t lent : List ℕ) (k n : ℕ) (e : size ≤ cap
       let fits : length t ≤ length lent = rw (e h) r in
       (simp (le-leb size capacity h, le-leb (length t) (length lent) fits), simp (le-leb size capacity h, le-leb (length t) (length lent) fits))
 
+-- a record of the capacity is written wherever its bytes have room
+pub emitted-gives : (capacity size : ℕ) (t lent : List ℕ) → size ≤ capacity → length t ≤ length lent → emitted capacity size t lent ≡ gives (over t lent)
+unfolding emitted
+emitted-gives capacity size t lent h k = simp (le-leb size capacity h, le-leb (length t) (length lent) k)
+
 pub length-held : (size : ℕ) (room : List ℕ) → size ≤ length room → length (take size room) ≡ size
 length-held size room h = length-take-le size room h
 
-pub length-wire : (size : ℕ) (room : List ℕ) → size ≤ length room → length (bytes 2 size ++ take size room) ≡ 2 + size
-length-wire size room h = simp (length-append, length-bytes, length-take-le size room h)
+pub length-wire : (size : ℕ) (room : List ℕ) → size ≤ length room → length (tpm2b (take size room)) ≡ 2 + size
+length-wire size room h = length-tpm2b (take size room) ∙ ap (λ (n : ℕ). 2 + n) (length-held size room h)
 
 -- what a copy to the start leaves
 pub copy-over : (t lent : List ℕ) → take 0 lent ++ (t ++ drop (0 + length t) lent) ≡ over t lent
 copy-over t lent = ap (λ (k : ℕ). t ++ drop k lent) (zero-add (length t))
 
 -- what the two bytes of the size and a copy behind them leave
-pub wire-over : (size : ℕ) (t lent l : List ℕ) → l ≡ set (set lent 0 (size / 256)) 1 (size % 256) → size < 65536 → 2 ≤ length lent
-    → take 2 l ++ (t ++ drop (2 + length t) l) ≡ over (bytes 2 size ++ t) lent
-wire-over size t lent l e h k =
+pub wire-over : (size : ℕ) (t lent l : List ℕ) → length t ≡ size → l ≡ set (set lent 0 (size / 256)) 1 (size % 256) → size < 65536 → 2 ≤ length lent
+    → take 2 l ++ (t ++ drop (2 + length t) l) ≡ over (tpm2b t) lent
+wire-over size t lent l n e h k =
     let two : l ≡ size / 256 ∷ size % 256 ∷ drop 2 lent = e ∙ stored lent 0 (size / 256 ∷ size % 256 ∷ []) (omega arith) (omega arith) in
+    let length-field : bytes 2 (length t) ≡ size / 256 ∷ size % 256 ∷ [] = ap (bytes 2) n ∙ sym (two-bytes size h) in
     let behind : 2 + length t ≡ suc (suc (length t)) = omega arith in
-    rw (two, ← two-bytes size h)
+    rw (two, length-field)
     (ap (λ (r : List ℕ). size / 256 ∷ size % 256 ∷ (t ++ r))
-    (drop-append-add (size / 256 ∷ size % 256 ∷ []) (drop 2 lent) (length t) ∙ drop-drop (length t) 2 lent ∙ ap (λ (m : ℕ). drop m lent) behind))
+        (drop-append-add (size / 256 ∷ size % 256 ∷ []) (drop 2 lent) (length t) ∙ drop-drop (length t) 2 lent ∙ ap (λ (m : ℕ). drop m lent) behind))
 
 -- ---- equality
 

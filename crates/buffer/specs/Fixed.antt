@@ -5,8 +5,8 @@ use mathlib.Core.Bool.{Bool, true, false, _&&_}
 use mathlib.Core.List.{List, [], _∷_, _++_}
 use lib.Dec.{eqb, leb}
 use lib.ListN.{length, take, drop, replicate}
-use Rattle.base.specs.Bytes.{bytes}
-use Rattle.base.specs.Said.{Said, gives, refuses, needs, then}
+use Rattle.base.specs.Said.{Said, gives, after, needs, then}
+use Rattle.base.specs.Tpm2b.{tpm2b}
 use Rattle.buffer.specs.View.{prefix}
 
 pub record Buffer : Type 0 where
@@ -47,8 +47,7 @@ abbrev pub sizeSaid : Said Buffer → Said ℕ
 sizeSaid said = then said λ b. gives (b .size)
 
 abbrev pub roomAfter : List ℕ → Said Buffer → List ℕ
-roomAfter old (gives b) = b .room
-roomAfter old (refuses why) = old
+roomAfter old said = after old (then said λ b. gives (b .room))
 
 -- the bytes that a TPM2B takes
 unfoldable pub wireLength : ℕ → ℕ → Said ℕ
@@ -68,9 +67,9 @@ emitted capacity size t lent =
 abbrev pub copied : ℕ → Buffer → List ℕ → Said (List ℕ)
 copied capacity b lent = emitted capacity (b .size) (held b) lent
 
--- the TPM2B of a buffer: its size, big-endian, and the bytes held
+-- a buffer goes out as the TPM2B of the bytes held
 abbrev pub wire : Buffer → List ℕ
-wire b = bytes 2 (b .size) ++ held b
+wire b = tpm2b (held b)
 
 abbrev pub marshalled : ℕ → Buffer → List ℕ → Said (List ℕ)
 marshalled capacity b lent = emitted capacity (b .size) (wire b) lent

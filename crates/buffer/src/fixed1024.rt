@@ -88,7 +88,7 @@ impl TpmBuffer1024 {
         ensures { λ r. ⌜ now (lent .exit) ≡ after (now (lent .entry)) (copied 1024 (of1024 self) (now (lent .entry))) ⌝ }
     {
         let data = self.data;
-        room::copy_out(self.size as usize, &data, lent)
+        Self::copy_out_lent(self.size, &data, lent)
     }
 
     // Whether two buffers hold the same bytes.
@@ -113,7 +113,7 @@ impl TpmBuffer1024 {
         ensures { λ r. ⌜ now (lent .exit) ≡ after (now (lent .entry)) (marshalled 1024 (of1024 self) (now (lent .entry))) ⌝ }
     {
         let data = self.data;
-        room::marshal(self.size as usize, &data, lent)
+        Self::marshal_lent(self.size, &data, lent)
     }
 
     // The buffer of the TPM2B at the start of s.

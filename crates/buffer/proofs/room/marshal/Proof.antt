@@ -1,12 +1,11 @@
 -- `buffer::room::marshal` meets its contract: each return is the case of the definition to which its tests lead, and two stores and `put` wrote the TPM2B.
 -- Assumes nothing.
 use mathlib.Core.Path.{refl, sym, _∙_}
-use mathlib.Core.List.{_++_}
 use Prim.Native.Nat.{_+_}
 use native.Mathlib.Omega.{arith}
 use lib.ListN.{length, take, length-set}
 use denote.Ref.{now}
-use Rattle.base.specs.Bytes.{bytes}
+use Rattle.base.specs.Tpm2b.{tpm2b}
 use Rattle.buffer.proofs.Rooms.{emit-too-many, emit-no-room, emit-done, length-held, length-wire, wire-over}
 use borrow.Author.Needs.{needs}
 use Rattle.buffer.proofs.room.marshal.Statement.{statement}
@@ -20,7 +19,7 @@ returns c =
     let a = c .before .before .before .before .args in
     let d = now (a .«data») in
     let l = now (a .lent) in
-    rw (c .too-many .ensures) (emit-too-many (length d) (a .size) (bytes 2 (a .size) ++ take (a .size) d) l (2 + a .size) (2 + a .size) (length-wire (a .size) d) (c .before .if1 .taken))
+    rw (c .too-many .ensures) (emit-too-many (length d) (a .size) (tpm2b (take (a .size) d)) l (2 + a .size) (2 + a .size) (length-wire (a .size) d) (c .before .if1 .taken))
 
 add-if2 : tie.Need-add-if2
 add-if2 c = search needs
@@ -36,7 +35,7 @@ returns-2 c =
     let a = c .before .before .before .before .before .args in
     let d = now (a .«data») in
     let l = now (a .lent) in
-    rw (c .no-room .ensures) (emit-no-room (length d) (a .size) (bytes 2 (a .size) ++ take (a .size) d) l (2 + a .size) (2 + a .size) (length-wire (a .size) d) (c .before .before .if1 .left) (c .before .if2 .taken))
+    rw (c .no-room .ensures) (emit-no-room (length d) (a .size) (tpm2b (take (a .size) d)) l (2 + a .size) (2 + a .size) (length-wire (a .size) d) (c .before .before .if1 .left) (c .before .if2 .taken))
 
 cast-lent : tie.Need-cast-lent
 cast-lent c = search needs
@@ -67,8 +66,9 @@ returns-3 c =
     let a = c .before .before .before .before .before .before .before .before .before .args in
     let d = now (a .«data») in
     let l = now (a .lent) in
-    let done = emit-done (length d) (a .size) (bytes 2 (a .size) ++ take (a .size) d) l (2 + a .size) (2 + a .size) (length-wire (a .size) d) (c .before .before .before .before .before .before .if1 .left) (c .before .before .before .before .before .if2 .left) in
-    (done .0, c .before .before .put .ensures ∙ wire-over (a .size) (take (a .size) d) l _ refl (omega arith) (omega arith) ∙ done .1)
+    let few = c .before .before .before .before .before .before .if1 .left in
+    let done = emit-done (length d) (a .size) (tpm2b (take (a .size) d)) l (2 + a .size) (2 + a .size) (length-wire (a .size) d) few (c .before .before .before .before .before .if2 .left) in
+    (done .0, c .before .before .put .ensures ∙ wire-over (a .size) (take (a .size) d) l _ (length-held (a .size) d few) refl (omega arith) (omega arith) ∙ done .1)
 
 pub marshal-spec : {M : Type 1} → statement M
 marshal-spec =
