@@ -51,9 +51,10 @@ module _ (capacity : ℕ) (s : List ℕ) (p : AreBytes s) where
 
   -- a prefix read passes exactly where the bytes start with a TPM2B of no more than the capacity
   pub prefix-exactly : (n : ℕ) → (prefix capacity s ≡ gives n) ↔ ((t : List ℕ) × (rest : List ℕ) × Divides capacity s t rest × (n ≡ 2 + length t))
-  prefix-exactly n =
-      ( (λ e. let d = divided n e in let fits = prefix-fits capacity s (sym e) in let long = d .1 in (take (n - 2) (drop 2 s), drop n s, d .0, omega arith))
-      , (λ d. ap (prefix capacity) (d .2 .0) ∙ sym (prefix-tpm2b capacity (d .0) (d .1) (d .2 .1) (d .2 .2)) ∙ ap gives (sym (d .3))) )
+  prefix-exactly n = (
+    (λ e. let d = divided n e in let fits = prefix-fits capacity s (sym e) in let long = d .1 in (take (n - 2) (drop 2 s), drop n s, d .0, omega arith)),
+    (λ d. ap (prefix capacity) (d .2 .0) ∙ sym (prefix-tpm2b capacity (d .0) (d .1) (d .2 .1) (d .2 .2)) ∙ ap gives (sym (d .3))),
+  )
 
   -- and a whole read where nothing stands behind it
   pub whole-exactly : (n : ℕ) → (whole capacity s ≡ gives n) ↔ ((t : List ℕ) × Divides capacity s t [] × (n ≡ 2 + length t))
@@ -104,13 +105,14 @@ module _ (capacity : ℕ) (b : Buffer) (lent : List ℕ) (w : OfCapacity capacit
       let two : 2 + length (held b) - 2 ≡ length (held b) = omega arith in
       let back : t ≡ held b = ap (λ (m : ℕ). take m (drop 2 later)) two ∙ tpm2b-data (held b) rest (omega arith) in
       let c : Buffer = put t (new capacity) (2 + length (held b) - 2) in
-      let same : held c ≡ held b = take-at t (drop (2 + length (held b) - 2) (replicate capacity 0)) (2 + length (held b) - 2) (ap length back ∙ sym two) ∙ back in
-      ( later
-      , emitted-gives capacity (b .size) (wire b) lent (omega arith) (omega arith)
-      , c
-      , sym (read-done capacity later read)
-      , sym (equal-read capacity (c .size) (c .room) (b .size) (b .room) (omega arith) (omega arith)) ∙ ap gives (ap (λ (l : List ℕ). sameBytes l (held b)) same ∙ bytes-same (held b))
-      , ap (λ (s : Said ℕ). tailPart s later) (sym read) ∙ tpm2b-rest (held b) rest (omega arith) ∙ ap (λ (m : ℕ). drop m lent) all )
+      let same : held c ≡ held b = take-at t (drop (2 + length (held b) - 2) (replicate capacity 0)) (2 + length (held b) - 2) (ap length back ∙ sym two) ∙ back in (
+        later,
+        emitted-gives capacity (b .size) (wire b) lent (omega arith) (omega arith),
+        c,
+        sym (read-done capacity later read),
+        sym (equal-read capacity (c .size) (c .room) (b .size) (b .room) (omega arith) (omega arith)) ∙ ap gives (ap (λ (l : List ℕ). sameBytes l (held b)) same ∙ bytes-same (held b)),
+        ap (λ (s : Said ℕ). tailPart s later) (sym read) ∙ tpm2b-rest (held b) rest (omega arith) ∙ ap (λ (m : ℕ). drop m lent) all,
+      )
 
 -- unmarshal, then marshal: the bytes that were read
 module _ (capacity : ℕ) (s : List ℕ) (p : AreBytes s) where

@@ -66,7 +66,7 @@ wire-over size t lent l n e h k =
     let behind : 2 + length t ≡ suc (suc (length t)) = omega arith in
     rw (two, length-field)
     (ap (λ (r : List ℕ). size / 256 ∷ size % 256 ∷ (t ++ r))
-        (drop-append-add (size / 256 ∷ size % 256 ∷ []) (drop 2 lent) (length t) ∙ drop-drop (length t) 2 lent ∙ ap (λ (m : ℕ). drop m lent) behind))
+    (drop-append-add (size / 256 ∷ size % 256 ∷ []) (drop 2 lent) (length t) ∙ drop-drop (length t) 2 lent ∙ ap (λ (m : ℕ). drop m lent) behind))
 
 -- ---- equality
 

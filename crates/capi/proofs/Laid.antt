@@ -7,7 +7,7 @@ use Rattle.base.specs.Said.{Said, gives, refuses, done, after}
 use Rattle.buffer.specs.Fixed.{Buffer, new, roomAfter, unmarshalled}
 use Rattle.buffer.specs.View.{prefix}
 use Rattle.buffer.proofs.Rooms.{read-done}
-use Rattle.capi.specs.Buffer.{laid, sizeOf}
+use Rattle.capi.specs.Buffer.{laid, sizeAlone}
 use Rattle.capi.specs.Out.{Reports}
 
 laid-said : (b : Buffer) (said : Said Buffer) → laid (done said) (after b said) ≡ said
@@ -15,7 +15,7 @@ laid-said b (gives c) = refl
 laid-said b (refuses why) = refl
 
 abbrev Laid : (rest old later room : List ℕ) (r : ℕ) → Said Buffer → Type 0
-Laid rest old later room r said = Reports sizeOf said old later r × (room ≡ roomAfter rest said)
+Laid rest old later room r said = Reports sizeAlone said old later r × (room ≡ roomAfter rest said)
 
 -- what was laid down of an answer and its buffer is what the call said
 module _ (rest : List ℕ) where

@@ -5,8 +5,8 @@ use mathlib.Core.List.{List, [], _∷_}
 use Rattle.base.specs.Said.{Said, gives, refuses}
 use Rattle.buffer.specs.Fixed.{Buffer}
 
-abbrev pub sizeOf : Buffer → List ℕ
-sizeOf b = b .size ∷ []
+abbrev pub sizeAlone : Buffer → List ℕ
+sizeAlone b = b .size ∷ []
 
 -- of a TPM2B that took n bytes, the size and n
 abbrev pub sizeAndWire : ℕ → List ℕ

@@ -17,9 +17,9 @@ abbrev pub fields : List ℕ → List ℕ
 fields [] = []
 fields (number ∷ rest) = rest
 
-abbrev pub number : {A : Type 0} → Said A → ℕ
-number (gives a) = 0
-number (refuses why) = first why
+abbrev pub returned : {A : Type 0} → Said A → ℕ
+returned (gives a) = 0
+returned (refuses why) = first why
 
 -- the numbers to report, where an answer's own are told by `of`
 abbrev pub values : {A : Type 0} → (A → List ℕ) → Said A → List ℕ
@@ -47,10 +47,10 @@ abbrev pub none : {A : Type 0} → A → List ℕ
 none a = []
 
 -- the array later: what is reported, stored from its first place on, over what was there
-abbrev pub over : List ℕ → List ℕ → List ℕ
-over new old = sets old 0 new
+abbrev pub storedOver : List ℕ → List ℕ → List ℕ
+storedOver new old = sets old 0 new
 
 -- a call returns r and leaves the array, which was old, as later: it reports what is said
 pub record Reports {A : Type 0} (of : A → List ℕ) (said : Said A) (old later : List ℕ) (r : ℕ) : Type 0 where
-  pub status : r ≡ number said
-  pub array : later ≡ over (values of said) old
+  pub status : r ≡ returned said
+  pub array : later ≡ storedOver (values of said) old

@@ -7,7 +7,7 @@ ghost use Rattle.base.specs.Said.{after, gives};
 ghost use Rattle.buffer.specs.Capacities.{of1024};
 ghost use Rattle.buffer.specs.Fixed.{buffer as record-of, copied, count, equal, extended, marshalled, new, roomAfter, sizeSaid, unmarshalled, wireLength};
 ghost use Rattle.buffer.specs.View.{prefix};
-ghost use Rattle.capi.specs.Buffer.{laid, sizeAndWire, sizeOf};
+ghost use Rattle.capi.specs.Buffer.{laid, sizeAndWire, sizeAlone};
 ghost use Rattle.capi.specs.Out.{Reports, one, truth};
 use crate::out;
 use crate::out::Numbers;
@@ -27,7 +27,7 @@ fn record(size: u16, data: &Room) -> TpmBuffer1024
 
 #[no_mangle]
 pub extern "C" fn skein_buffer1024_new(data: &mut Room, out: &mut Numbers) -> u32
-    ensures { λ r. ⌜ Reports sizeOf (gives (new 1024)) (now (out .entry)) (now (out .exit)) r ⌝ }
+    ensures { λ r. ⌜ Reports sizeAlone (gives (new 1024)) (now (out .entry)) (now (out .exit)) r ⌝ }
     ensures { λ r. ⌜ now («data» .exit) ≡ new 1024 .room ⌝ }
 {
     let buffer = TpmBuffer1024::new();
@@ -86,7 +86,7 @@ pub extern "C" fn skein_buffer1024_eq(
 
 // Lays a new buffer down where there is one, and reports its size or the refusal.
 fn lay(extended: Extended1024, data: &mut Room, out: &mut Numbers) -> u32
-    ensures { λ r. ⌜ Reports sizeOf (laid (saidOutcome (extended .answer)) (of1024 (extended .buffer))) (now (out .entry)) (now (out .exit)) r ⌝ }
+    ensures { λ r. ⌜ Reports sizeAlone (laid (saidOutcome (extended .answer)) (of1024 (extended .buffer))) (now (out .entry)) (now (out .exit)) r ⌝ }
     ensures { λ r. ⌜ now («data» .exit) ≡ roomAfter (now («data» .entry)) (laid (saidOutcome (extended .answer)) (of1024 (extended .buffer))) ⌝ }
 {
     let answer = extended.answer;
@@ -109,7 +109,7 @@ pub extern "C" fn skein_buffer1024_push(
     byte: u8,
     out: &mut Numbers,
 ) -> u32
-    ensures { λ r. ⌜ Reports sizeOf (extended 1024 (byte ∷ []) (record-of size (now («data» .entry)))) (now (out .entry)) (now (out .exit)) r ⌝ }
+    ensures { λ r. ⌜ Reports sizeAlone (extended 1024 (byte ∷ []) (record-of size (now («data» .entry)))) (now (out .entry)) (now (out .exit)) r ⌝ }
     ensures { λ r. ⌜ now («data» .exit) ≡ roomAfter (now («data» .entry)) (extended 1024 (byte ∷ []) (record-of size (now («data» .entry)))) ⌝ }
 {
     lay(record(size, data).try_push(byte), data, out)
@@ -130,7 +130,7 @@ pub extern "C" fn skein_buffer1024_extend(
 
 #[no_mangle]
 pub extern "C" fn skein_buffer1024_from_slice(s: &[u8], data: &mut Room, out: &mut Numbers) -> u32
-    ensures { λ r. ⌜ Reports sizeOf (extended 1024 (now (s .entry)) (new 1024)) (now (out .entry)) (now (out .exit)) r ⌝ }
+    ensures { λ r. ⌜ Reports sizeAlone (extended 1024 (now (s .entry)) (new 1024)) (now (out .entry)) (now (out .exit)) r ⌝ }
     ensures { λ r. ⌜ now («data» .exit) ≡ roomAfter (now («data» .entry)) (extended 1024 (now (s .entry)) (new 1024)) ⌝ }
 {
     lay(TpmBuffer1024::from_slice(s), data, out)

@@ -3,7 +3,7 @@ ghost use mathlib.Core.Path.{_≡_};
 ghost use mathlib.Core.List.{[], _∷_};
 ghost use Rattle.base.specs.Error.{numbered};
 ghost use Rattle.base.specs.Answer.{saidCount, saidFlag, saidNumber16, saidNumber32, saidOutcome, saidRange};
-ghost use Rattle.capi.specs.Out.{Reports, ends, fields, first, none, one, over, truth};
+ghost use Rattle.capi.specs.Out.{Reports, ends, fields, first, none, one, storedOver, truth};
 use base::answer::Count;
 use base::answer::Flag;
 use base::answer::Number16;
@@ -17,7 +17,7 @@ pub type Numbers = [u64; 8];
 
 fn three(number: u32, a: usize, b: usize, c: usize, out: &mut Numbers) -> u32
     ensures { λ r. ⌜ r ≡ number ⌝ }
-    ensures { λ r. ⌜ now (out .exit) ≡ over (a ∷ b ∷ c ∷ []) (now (out .entry)) ⌝ }
+    ensures { λ r. ⌜ now (out .exit) ≡ storedOver (a ∷ b ∷ c ∷ []) (now (out .entry)) ⌝ }
 {
     out[0] = a as u64;
     out[1] = b as u64;
@@ -27,7 +27,7 @@ fn three(number: u32, a: usize, b: usize, c: usize, out: &mut Numbers) -> u32
 
 pub(crate) fn two(number: u32, a: usize, b: u64, out: &mut Numbers) -> u32
     ensures { λ r. ⌜ r ≡ number ⌝ }
-    ensures { λ r. ⌜ now (out .exit) ≡ over (a ∷ b ∷ []) (now (out .entry)) ⌝ }
+    ensures { λ r. ⌜ now (out .exit) ≡ storedOver (a ∷ b ∷ []) (now (out .entry)) ⌝ }
 {
     out[0] = a as u64;
     out[1] = b;
@@ -37,7 +37,7 @@ pub(crate) fn two(number: u32, a: usize, b: u64, out: &mut Numbers) -> u32
 // A refusal: its number, and its fields into the array.
 pub(crate) fn refuse(e: TpmError, out: &mut Numbers) -> u32
     ensures { λ r. ⌜ r ≡ first (numbered e) ⌝ }
-    ensures { λ r. ⌜ now (out .exit) ≡ over (fields (numbered e)) (now (out .entry)) ⌝ }
+    ensures { λ r. ⌜ now (out .exit) ≡ storedOver (fields (numbered e)) (now (out .entry)) ⌝ }
 {
     match e {
         TpmError::UnexpectedEnd {

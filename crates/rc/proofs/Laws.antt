@@ -2,7 +2,7 @@
 -- Assumes nothing.
 use mathlib.Core.Path.{_≡_, refl, sym, _∙_, ap, subst}
 use mathlib.Core.Bool.{Bool, true, false, _&&_}
-use mathlib.Core.List.{[], _∷_}
+use mathlib.Core.List.{List, [], _∷_}
 use mathlib.Core.Logic.{_⊎_, inl, inr, ⊎-elim, _↔_}
 use Prim.Native.Nat.{ℕ, _+_, _-_, _*_, _/_, _%_, _^_, _≤_, _<_}
 use native.Mathlib.Omega.{arith}
@@ -10,7 +10,7 @@ use borrow.Author.Tests.{eqb-true, eqb-false, ltb-true, ltb-false, eq-eqb}
 use lib.Bits.{bitOr, or-block, or-zero-r, or-shifted-r}
 use lib.Dec.{eqb, ltb}
 use lib.Pow.{shr-shr}
-use Rattle.base.specs.Said.{Said, gives, either}
+use Rattle.base.specs.Said.{Said, gives, refuses, either, needs}
 use Rattle.base.proofs.Checks.{needs-gives, either-gives, gives-injective}
 use Rattle.rc.specs.declared.code.Code.{Code}
 use Rattle.rc.specs.declared.code.Code.the-variants.{Fmt0, Warn, Fmt1, Parameter, Handle, Session}
@@ -140,12 +140,36 @@ complete (Session b n) w =
 
 -- ---- what follows
 
--- a value reads exactly when it is the value of a well-formed code
-pub reads-exactly : (value : ℕ) → ((c : Code) × (readCode value ≡ gives c)) ↔ ((c : Code) × (WellFormed c × (valueOf c ≡ value)))
-reads-exactly value = (
-  (λ r. (r .0, sound value (r .0) (r .1))),
-  (λ r. (r .0, subst (λ (v : ℕ). readCode v ≡ gives (r .0)) (r .1 .1) (complete (r .0) (r .1 .0)))),
-)
+-- a value reads as a code exactly when the code is well formed and has that value
+pub reads-exactly : (value : ℕ) (c : Code) → (readCode value ≡ gives c) ↔ (WellFormed c × (valueOf c ≡ value))
+reads-exactly value c = (sound value c, λ r. subst (λ (v : ℕ). readCode v ≡ gives c) (r .1) (complete c (r .0)))
+
+-- every refusal is 5(0,value)
+abbrev OnlyFive : ℕ → Said Code → Type 0
+OnlyFive value (gives c) = Unit {0}
+OnlyFive value (refuses why) = why ≡ 5 ∷ 0 ∷ value ∷ []
+
+module _ (value : ℕ) where
+  five-needs : (t : Bool) (rest : Said Code) → OnlyFive value rest → OnlyFive value (needs t (5 ∷ 0 ∷ value ∷ []) rest)
+  five-needs true rest h = h
+  five-needs false rest h = refl
+
+  five-either : (t : Bool) (x y : Said Code) → OnlyFive value x → OnlyFive value y → OnlyFive value (either t x y)
+  five-either true x y h k = h
+  five-either false x y h k = k
+
+  five-index : (b : ℕ) (p : Bool) (n : ℕ) → OnlyFive value (readIndex value b p n)
+  unfolding readIndex
+  five-index b p n = five-either p _ _ (five-needs (ltb 0 n) _ tt) (five-either (eqb n 0) _ _ tt (five-either (ltb n 8) _ _ tt tt))
+
+  only-five : OnlyFive value (readCode value)
+  unfolding readCode readFmt1 readFmt0
+  only-five =
+      five-either (bit 128 value) _ _ (five-needs (ltb value 4096) _ (five-needs (isKnown (128 + value % 64)) _ (five-index (128 + value % 64) (bit 64 value) (value / 256 % 16))))
+      (five-needs (isKnown value) _ tt)
+
+  pub refusals : (why : List ℕ) → readCode value ≡ refuses why → why ≡ 5 ∷ 0 ∷ value ∷ []
+  refusals why e = subst (OnlyFive value) e only-five
 
 -- two well-formed codes of one value are one
 pub one-reading : (c d : Code) → WellFormed c → WellFormed d → valueOf c ≡ valueOf d → c ≡ d

@@ -26,6 +26,8 @@ fn run(s: &[u8], bytes: &mut [u8]) {
     let told = call(text::word(s, 0), bytes, place, value, &mut out);
     if told.known {
         show::answer(told.number, told.count, out);
+    } else if !check::same(text::word(s, 0), b"#") {
+        io::write_all(1, b" ?");
     }
     if told.writes {
         io::write_all(1, b" ; ");
@@ -45,7 +47,49 @@ fn call(name: &[u8], bytes: &mut [u8], first: usize, second: u64, out: &mut [u64
             capi::code::skein_rc_read((first % 4294967296) as u32, out),
         );
     }
-    view(name, bytes, first, out)
+    let told = view(name, bytes, first, out);
+    if told.known {
+        return told;
+    }
+    fixed(name, bytes, first, out)
+}
+
+// Of the fixed buffers the calls that start from nothing, on a room of their own.
+fn fixed(name: &[u8], bytes: &[u8], size: usize, out: &mut [u64; 8]) -> Told {
+    let size = (size % 65536) as u16;
+    let mut small = [0u8; 64];
+    let mut large = [0u8; 1024];
+    if check::same(name, b"buffer64_from_slice") {
+        return read(
+            1,
+            capi::buffer64::skein_buffer64_from_slice(bytes, &mut small, out),
+        );
+    }
+    if check::same(name, b"buffer64_unmarshal") {
+        return read(
+            2,
+            capi::buffer64::skein_buffer64_unmarshal(bytes, &mut small, out),
+        );
+    }
+    if check::same(name, b"buffer64_len") {
+        return read(1, capi::buffer64::skein_buffer64_len(size, out));
+    }
+    if check::same(name, b"buffer1024_from_slice") {
+        return read(
+            1,
+            capi::buffer1024::skein_buffer1024_from_slice(bytes, &mut large, out),
+        );
+    }
+    if check::same(name, b"buffer1024_unmarshal") {
+        return read(
+            2,
+            capi::buffer1024::skein_buffer1024_unmarshal(bytes, &mut large, out),
+        );
+    }
+    if check::same(name, b"buffer1024_len") {
+        return read(1, capi::buffer1024::skein_buffer1024_len(size, out));
+    }
+    unknown()
 }
 
 fn field(name: &[u8], bytes: &mut [u8], place: usize, value: u64, out: &mut [u64; 8]) -> Told {

@@ -1,7 +1,9 @@
 // Runs the calls that standard input lists, one to a line, and writes each line again with its answer behind it:
 // the refusal's number (0: an answer) and the numbers reported, and for a write the bytes as they are later.
-// A line is CALL BYTES NUMBER NUMBER, bytes in hex and numbers in decimal, `-` for none: a place or a capacity or a code,
-// then what is to be written. A line that starts with # is written as it is. What the program must write, crates/worked/stdout, is document 01's and the Rust's word.
+// A line is CALL BYTES NUMBER NUMBER, bytes in hex and numbers in decimal, `-` for none: a place, a capacity, a size or
+// a code, then what is to be written. A line that starts with # and a space is written as it is, and one with a call
+// that is not there gets a question mark. What the program must write, crates/worked/stdout, is document 01's and the
+// Rust's word.
 mod calls;
 mod show;
 mod text;

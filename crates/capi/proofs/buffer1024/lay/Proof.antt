@@ -1,7 +1,7 @@
 -- `capi::buffer1024::lay` meets its contract: in each arm the answer is its variant.
 -- Assumes nothing.
 use mathlib.Core.Path.{refl}
-use Rattle.capi.specs.Buffer.{sizeOf}
+use Rattle.capi.specs.Buffer.{sizeAlone}
 use Rattle.capi.proofs.Reported.{answered, refused}
 use borrow.Author.Needs.{needs}
 use Rattle.capi.proofs.buffer1024.lay.Statement.{statement}
@@ -23,10 +23,10 @@ element-write-out : tie.Need-element-write-out
 element-write-out c = search needs
 
 returns : tie.Need-returns
-returns c = rw (c .before .before .before .answer .given .1) (refused sizeOf _ _ _ _ _ refl (c .refuse .ensures), refl)
+returns c = rw (c .before .before .before .answer .given .1) (refused sizeAlone _ _ _ _ _ refl (c .refuse .ensures), refl)
 
 returns-2 : tie.Need-returns-2
-returns-2 c = rw (c .before .before .before .enum-told .given .1) (answered sizeOf _ _ _ refl, refl)
+returns-2 c = rw (c .before .before .before .enum-told .given .1) (answered sizeAlone _ _ _ refl, refl)
 
 pub lay-spec : {M : Type 1} → statement M
 lay-spec =

@@ -9,7 +9,7 @@ use Rattle.base.proofs.Answers.{learnt}
 use Rattle.base.proofs.Checks.{done-gives, done-refuses}
 use Rattle.buffer.specs.View.{whole}
 use Rattle.buffer.proofs.Views.{whole-fits, whole-part}
-use Rattle.capi.specs.Out.{fromStart, over}
+use Rattle.capi.specs.Out.{fromStart, storedOver}
 use Rattle.capi.proofs.Reported.{answered-by, refused}
 use borrow.Author.Needs.{needs}
 use Rattle.capi.proofs.tpm2b.skein_tpm2b_cast.Statement.{statement}
@@ -43,7 +43,7 @@ returns-2 c =
     let passed = learnt saidOutcome (c .before .before .before .enum-told .given .1) (c .before .before .before .before .before .validate .ensures) in
     let read = done-gives (whole (a .capacity) s) passed in
     let long = ap length (c .before .before .cast .ensures ∙ sym (whole-part (a .capacity) s passed)) ∙ sym (whole-fits (a .capacity) s (read .1)) in
-    answered-by fromStart _ _ _ _ _ (read .1) (c .two .ensures .0, c .two .ensures .1 ∙ ap (λ (n : ℕ). over (fromStart n) (now (a .out))) long)
+    answered-by fromStart _ _ _ _ _ (read .1) (c .two .ensures .0, c .two .ensures .1 ∙ ap (λ (n : ℕ). storedOver (fromStart n) (now (a .out))) long)
 
 pub skein-tpm2b-cast-spec : {M : Type 1} → statement M
 skein-tpm2b-cast-spec =
