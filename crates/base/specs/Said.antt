@@ -29,7 +29,7 @@ abbrev pub done : {A : Type 0} → Said A → Said (Unit {0})
 done (gives a) = gives tt
 done (refuses why) = refuses why
 
--- .. and what they are later. A refused call changes none (00, rule 1)
+-- .. and what they are later: a refused call changes none
 abbrev pub after : {A : Type 0} → A → Said A → A
 after old (gives new) = new
 after old (refuses why) = old
