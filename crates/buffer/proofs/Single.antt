@@ -2,10 +2,13 @@
 -- Assumes nothing.
 use mathlib.Core.Path.{_≡_, refl, sym, _∙_}
 use denote.Ref.{now}
+use Rattle.base.specs.Answer.{saidOutcome}
 use Rattle.base.specs.Single.{Single, SinglePart}
 use Rattle.base.proofs.Answers.{saidCount-injective, saidFlag-injective, saidOutcome-injective, saidRange-injective}
 use Rattle.buffer.specs.declared.fixed64.TpmBuffer64.{TpmBuffer64}
+use Rattle.buffer.specs.declared.fixed64.Extended64.{Extended64}
 use Rattle.buffer.specs.declared.fixed1024.TpmBuffer1024.{TpmBuffer1024}
+use Rattle.buffer.specs.declared.fixed1024.Extended1024.{Extended1024}
 use Rattle.buffer.specs.Capacities.{of64, of1024}
 use Rattle.buffer.proofs.view.size.Kinds as size-kinds
 use Rattle.buffer.proofs.view.size.Reads as size-reads
@@ -133,26 +136,23 @@ data-mut κs a x y v w p q = (p ∙ sym q, refl)
 same64 : (x y : TpmBuffer64) → of64 x ≡ of64 y → x ≡ y
 same64 x y e = λ i. record { size = e i .size; «data» = e i .room }
 
+beside64 : (x y : Extended64) → saidOutcome (x .answer) ≡ saidOutcome (y .answer) → of64 (x .buffer) ≡ of64 (y .buffer) → x ≡ y
+beside64 x y e f =
+    let answer = saidOutcome-injective (x .answer) (y .answer) e in
+    let buffer = same64 (x .buffer) (y .buffer) f in
+    λ i. record { answer = answer i; buffer = buffer i }
+
 new-64 : Single 0 new-64-kinds.ps new-64-kinds.r new-64-reads.Post
 new-64 κs a x y v w p q = (same64 x y (p ∙ sym q), refl)
 
 try-push-64 : Single 0 try-push-64-kinds.ps try-push-64-kinds.r try-push-64-reads.Post
-try-push-64 κs a x y v w p q =
-    let answer = saidOutcome-injective (x .answer) (y .answer) (p .0 ∙ sym (q .0)) in
-    let buffer = same64 (x .buffer) (y .buffer) (p .1 ∙ sym (q .1)) in
-    (λ i. record { answer = answer i; buffer = buffer i }, refl)
+try-push-64 κs a x y v w p q = (beside64 x y (p .0 ∙ sym (q .0)) (p .1 ∙ sym (q .1)), refl)
 
 try-extend-from-slice-64 : Single 1 try-extend-from-slice-64-kinds.ps try-extend-from-slice-64-kinds.r try-extend-from-slice-64-reads.Post
-try-extend-from-slice-64 κs a x y v w p q =
-    let answer = saidOutcome-injective (x .answer) (y .answer) (p .0 ∙ sym (q .0)) in
-    let buffer = same64 (x .buffer) (y .buffer) (p .1 ∙ sym (q .1)) in
-    (λ i. record { answer = answer i; buffer = buffer i }, refl)
+try-extend-from-slice-64 κs a x y v w p q = (beside64 x y (p .0 ∙ sym (q .0)) (p .1 ∙ sym (q .1)), refl)
 
 from-slice-64 : Single 1 from-slice-64-kinds.ps from-slice-64-kinds.r from-slice-64-reads.Post
-from-slice-64 κs a x y v w p q =
-    let answer = saidOutcome-injective (x .answer) (y .answer) (p .0 ∙ sym (q .0)) in
-    let buffer = same64 (x .buffer) (y .buffer) (p .1 ∙ sym (q .1)) in
-    (λ i. record { answer = answer i; buffer = buffer i }, refl)
+from-slice-64 κs a x y v w p q = (beside64 x y (p .0 ∙ sym (q .0)) (p .1 ∙ sym (q .1)), refl)
 
 copy-out-64 : Single 1 copy-out-64-kinds.ps copy-out-64-kinds.r copy-out-64-reads.Post
 copy-out-64 κs a x y v w p q = (saidCount-injective x y (p .0 ∙ sym (q .0)), λ i. (tt, ((p .1 ∙ sym (q .1)) i, tt)))
@@ -177,26 +177,23 @@ unmarshal-64 κs a x y v w p q =
 same1024 : (x y : TpmBuffer1024) → of1024 x ≡ of1024 y → x ≡ y
 same1024 x y e = λ i. record { size = e i .size; «data» = e i .room }
 
+beside1024 : (x y : Extended1024) → saidOutcome (x .answer) ≡ saidOutcome (y .answer) → of1024 (x .buffer) ≡ of1024 (y .buffer) → x ≡ y
+beside1024 x y e f =
+    let answer = saidOutcome-injective (x .answer) (y .answer) e in
+    let buffer = same1024 (x .buffer) (y .buffer) f in
+    λ i. record { answer = answer i; buffer = buffer i }
+
 new-1024 : Single 0 new-1024-kinds.ps new-1024-kinds.r new-1024-reads.Post
 new-1024 κs a x y v w p q = (same1024 x y (p ∙ sym q), refl)
 
 try-push-1024 : Single 0 try-push-1024-kinds.ps try-push-1024-kinds.r try-push-1024-reads.Post
-try-push-1024 κs a x y v w p q =
-    let answer = saidOutcome-injective (x .answer) (y .answer) (p .0 ∙ sym (q .0)) in
-    let buffer = same1024 (x .buffer) (y .buffer) (p .1 ∙ sym (q .1)) in
-    (λ i. record { answer = answer i; buffer = buffer i }, refl)
+try-push-1024 κs a x y v w p q = (beside1024 x y (p .0 ∙ sym (q .0)) (p .1 ∙ sym (q .1)), refl)
 
 try-extend-from-slice-1024 : Single 1 try-extend-from-slice-1024-kinds.ps try-extend-from-slice-1024-kinds.r try-extend-from-slice-1024-reads.Post
-try-extend-from-slice-1024 κs a x y v w p q =
-    let answer = saidOutcome-injective (x .answer) (y .answer) (p .0 ∙ sym (q .0)) in
-    let buffer = same1024 (x .buffer) (y .buffer) (p .1 ∙ sym (q .1)) in
-    (λ i. record { answer = answer i; buffer = buffer i }, refl)
+try-extend-from-slice-1024 κs a x y v w p q = (beside1024 x y (p .0 ∙ sym (q .0)) (p .1 ∙ sym (q .1)), refl)
 
 from-slice-1024 : Single 1 from-slice-1024-kinds.ps from-slice-1024-kinds.r from-slice-1024-reads.Post
-from-slice-1024 κs a x y v w p q =
-    let answer = saidOutcome-injective (x .answer) (y .answer) (p .0 ∙ sym (q .0)) in
-    let buffer = same1024 (x .buffer) (y .buffer) (p .1 ∙ sym (q .1)) in
-    (λ i. record { answer = answer i; buffer = buffer i }, refl)
+from-slice-1024 κs a x y v w p q = (beside1024 x y (p .0 ∙ sym (q .0)) (p .1 ∙ sym (q .1)), refl)
 
 copy-out-1024 : Single 1 copy-out-1024-kinds.ps copy-out-1024-kinds.r copy-out-1024-reads.Post
 copy-out-1024 κs a x y v w p q = (saidCount-injective x y (p .0 ∙ sym (q .0)), λ i. (tt, ((p .1 ∙ sym (q .1)) i, tt)))

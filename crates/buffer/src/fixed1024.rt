@@ -13,9 +13,11 @@ use base::answer::Count;
 use base::answer::Flag;
 use base::answer::Outcome;
 
+pub type Room = [u8; 1024];
+
 pub struct TpmBuffer1024 {
     pub size: u16,
-    pub data: [u8; 1024],
+    pub data: Room,
 }
 
 // A buffer beside the answer: the new one, or where refused the one that was there.
@@ -142,7 +144,7 @@ impl TpmBuffer1024 {
     }
 
     // Three of these on a record whose room is lent: nothing is copied but the bytes that move.
-    pub fn extend_lent(size: u16, data: &mut [u8; 1024], given: &[u8]) -> Count
+    pub fn extend_lent(size: u16, data: &mut Room, given: &[u8]) -> Count
         ensures { λ r. ⌜ saidCount r ≡ sizeSaid (extended 1024 (now (given .entry)) (buffer size (now («data» .entry)))) ⌝ }
         ensures { λ r. ⌜ now («data» .exit) ≡ roomAfter (now («data» .entry)) (extended 1024 (now (given .entry)) (buffer size (now («data» .entry)))) ⌝ }
     {
@@ -154,14 +156,14 @@ impl TpmBuffer1024 {
         grown
     }
 
-    pub fn copy_out_lent(size: u16, data: &[u8; 1024], lent: &mut [u8]) -> Count
+    pub fn copy_out_lent(size: u16, data: &Room, lent: &mut [u8]) -> Count
         ensures { λ r. ⌜ saidCount r ≡ count size (copied 1024 (buffer size (now («data» .entry))) (now (lent .entry))) ⌝ }
         ensures { λ r. ⌜ now (lent .exit) ≡ after (now (lent .entry)) (copied 1024 (buffer size (now («data» .entry))) (now (lent .entry))) ⌝ }
     {
         room::copy_out(size as usize, data, lent)
     }
 
-    pub fn marshal_lent(size: u16, data: &[u8; 1024], lent: &mut [u8]) -> Count
+    pub fn marshal_lent(size: u16, data: &Room, lent: &mut [u8]) -> Count
         ensures { λ r. ⌜ saidCount r ≡ count (2 + size) (marshalled 1024 (buffer size (now («data» .entry))) (now (lent .entry))) ⌝ }
         ensures { λ r. ⌜ now (lent .exit) ≡ after (now (lent .entry)) (marshalled 1024 (buffer size (now («data» .entry))) (now (lent .entry))) ⌝ }
     {

@@ -14,9 +14,8 @@ use crate::out::Numbers;
 use base::answer::Count;
 use base::answer::Outcome;
 use buffer::fixed1024::Extended1024;
+use buffer::fixed1024::Room;
 use buffer::fixed1024::TpmBuffer1024;
-
-type Room = [u8; 1024];
 
 fn record(size: u16, data: &Room) -> TpmBuffer1024
     ensures { λ r. ⌜ of1024 r ≡ record-of size (now («data» .entry)) ⌝ }

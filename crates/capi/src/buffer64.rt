@@ -14,9 +14,8 @@ use crate::out::Numbers;
 use base::answer::Count;
 use base::answer::Outcome;
 use buffer::fixed64::Extended64;
+use buffer::fixed64::Room;
 use buffer::fixed64::TpmBuffer64;
-
-type Room = [u8; 64];
 
 fn record(size: u16, data: &Room) -> TpmBuffer64
     ensures { λ r. ⌜ of64 r ≡ record-of size (now («data» .entry)) ⌝ }
