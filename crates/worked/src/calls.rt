@@ -51,7 +51,37 @@ fn call(name: &[u8], bytes: &mut [u8], first: usize, second: u64, out: &mut [u64
     if told.known {
         return told;
     }
+    let told = part(name, bytes, first);
+    if told.known {
+        return told;
+    }
     fixed(name, bytes, first, out)
+}
+
+// The parts that can be written through: each is filled, which shows where it stands and what it leaves alone.
+fn part(name: &[u8], bytes: &mut [u8], capacity: usize) -> Told {
+    if check::same(name, b"cast_mut") {
+        return filled(buffer::view::cast_mut(capacity, bytes));
+    }
+    if check::same(name, b"cast_prefix_mut") {
+        return filled(buffer::view::cast_prefix_mut(capacity, bytes));
+    }
+    if check::same(name, b"cast_prefix_tail_mut") {
+        return filled(buffer::view::cast_prefix_tail_mut(capacity, bytes));
+    }
+    if check::same(name, b"data_mut") {
+        return filled(buffer::view::data_mut(bytes));
+    }
+    unknown()
+}
+
+fn filled(part: &mut [u8]) -> Told {
+    let mut at = 0;
+    while at < part.len() {
+        part[at] = 255;
+        at += 1;
+    }
+    wrote(0)
 }
 
 // Of the fixed buffers the calls that start from nothing, on a room of their own.
