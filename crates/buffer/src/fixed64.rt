@@ -148,12 +148,7 @@ impl TpmBuffer64 {
         ensures { λ r. ⌜ saidCount r ≡ sizeSaid (extended 64 (now (given .entry)) (buffer size (now («data» .entry)))) ⌝ }
         ensures { λ r. ⌜ now («data» .exit) ≡ roomAfter (now («data» .entry)) (extended 64 (now (given .entry)) (buffer size (now («data» .entry)))) ⌝ }
     {
-        let at = size as usize;
-        let grown = room::grow(64, at, given.len());
-        if let Count::Is(_) = grown {
-            room::put(data, at, given);
-        }
-        grown
+        room::extend(size as usize, data, given)
     }
 
     pub fn copy_out_lent(size: u16, data: &Room, lent: &mut [u8]) -> Count

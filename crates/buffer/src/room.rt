@@ -5,7 +5,7 @@ ghost use Prim.Native.Nat.{_+_, _≤_};
 ghost use lib.ListN.{length, take, drop};
 ghost use Rattle.base.specs.Answer.{saidCount, saidFlag};
 ghost use Rattle.base.specs.Said.{after};
-ghost use Rattle.buffer.specs.Fixed.{buffer, copied, count, equal, grown, marshalled, wireLength};
+ghost use Rattle.buffer.specs.Fixed.{buffer, copied, count, equal, extended, grown, marshalled, roomAfter, sizeSaid, wireLength};
 use base::answer::Count;
 use base::answer::Flag;
 use base::error::TpmError;
@@ -68,6 +68,18 @@ pub(crate) fn put(s: &mut [u8], place: usize, t: &[u8])
         s[place + i] = t[i];
         i += 1;
     }
+}
+
+// Puts the bytes given behind those held.
+pub(crate) fn extend(size: usize, data: &mut [u8], given: &[u8]) -> Count
+    ensures { λ r. ⌜ saidCount r ≡ sizeSaid (extended (length (now («data» .entry))) (now (given .entry)) (buffer size (now («data» .entry)))) ⌝ }
+    ensures { λ r. ⌜ now («data» .exit) ≡ roomAfter (now («data» .entry)) (extended (length (now («data» .entry))) (now (given .entry)) (buffer size (now («data» .entry)))) ⌝ }
+{
+    let grown = grow(data.len(), size, given.len());
+    if let Count::Is(_) = grown {
+        put(data, size, given);
+    }
+    grown
 }
 
 // Copies the bytes held to the start of lent room.
