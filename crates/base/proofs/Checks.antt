@@ -1,11 +1,11 @@
--- An order of checks that gives an answer has passed each check: how a definition made of needs, either and then is taken apart.
+-- An order of checks that gives an answer has passed each check: how a definition made of needs, cond and then is taken apart.
 -- Assumes nothing.
 use mathlib.Core.Path.{_≡_, refl, subst, sym, ap}
-use mathlib.Core.Bool.{Bool, true, false}
+use mathlib.Core.Bool.{Bool, true, false, cond}
 use mathlib.Core.List.{List}
 use mathlib.Core.Logic.{_⊎_, inl, inr}
 use Prim.Native.Nat.{ℕ}
-use Rattle.base.specs.Said.{Said, gives, refuses, either, needs, then, done}
+use Rattle.base.specs.Said.{Said, gives, refuses, needs, then, done}
 
 abbrev isGiven : {A : Type 0} → Said A → Type 0
 isGiven (gives a) = Unit {0}
@@ -25,10 +25,10 @@ module _ {A : Type 0} where
   needs-gives true why rest e = (refl, e)
   needs-gives false why rest e = absurd (gives≢refuses (sym e))
 
-  pub either-gives : (t : Bool) (x y : Said A) {a : A} → either t x y ≡ gives a
+  pub cond-gives : (t : Bool) (x y : Said A) {a : A} → cond t x y ≡ gives a
       → ((t ≡ true) × (x ≡ gives a)) ⊎ ((t ≡ false) × (y ≡ gives a))
-  either-gives true x y e = inl (refl, e)
-  either-gives false x y e = inr (refl, e)
+  cond-gives true x y e = inl (refl, e)
+  cond-gives false x y e = inr (refl, e)
 
   pub then-gives : {B : Type 0} (s : Said A) (f : A → Said B) {b : B} → then s f ≡ gives b → (a : A) × (s ≡ gives a) × (f a ≡ gives b)
   then-gives (gives a) f e = (a, refl, e)

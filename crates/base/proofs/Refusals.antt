@@ -8,14 +8,14 @@ use lib.ListN.{getD}
 use Rattle.base.specs.declared.error.TpmError.{TpmError}
 use Rattle.base.specs.declared.error.TpmError.the-variants.{UnexpectedEnd, TrailingData, InvalidTag, InvalidCc, InvalidRc, TooManyItems, IntegerTooLarge, TooManyBytes, BufferOverflow}
 use Rattle.base.specs.Error.{numbered}
-use Rattle.base.specs.Said.{Said, gives, refuses, either}
+use mathlib.Core.Bool.{cond}
 
 -- the refusal that a number and its values name
 abbrev three : ℕ → (ℕ → ℕ → ℕ → TpmError) → List ℕ → TpmError → TpmError
-three k made l other = either (eqb (getD l 0 0) k) (made (getD l 1 0) (getD l 2 0) (getD l 3 0)) other
+three k made l other = cond (eqb (getD l 0 0) k) (made (getD l 1 0) (getD l 2 0) (getD l 3 0)) other
 
 abbrev two : ℕ → (ℕ → ℕ → TpmError) → List ℕ → TpmError → TpmError
-two k made l other = either (eqb (getD l 0 0) k) (made (getD l 1 0) (getD l 2 0)) other
+two k made l other = cond (eqb (getD l 0 0) k) (made (getD l 1 0) (getD l 2 0)) other
 
 pub named : List ℕ → TpmError
 named l =

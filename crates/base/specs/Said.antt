@@ -9,11 +9,6 @@ pub data Said (A : Type 0) : Type 0 where
   gives : A → Said A
   refuses : List ℕ → Said A
 
--- the one or the other
-abbrev pub either : {A : Type 0} → Bool → A → A → A
-either true a b = a
-either false a b = b
-
 -- one check: where the test holds, what follows; else the refusal
 abbrev pub needs : {A : Type 0} → Bool → List ℕ → Said A → Said A
 needs true why rest = rest
@@ -23,6 +18,11 @@ needs false why rest = refuses why
 abbrev pub then : {A B : Type 0} → Said A → (A → Said B) → Said B
 then (gives a) f = f a
 then (refuses why) f = refuses why
+
+-- whether something is given
+abbrev pub given : {A : Type 0} → Said A → Bool
+given (gives a) = true
+given (refuses why) = false
 
 -- of a call that changes lent bytes: what it answers ..
 abbrev pub done : {A : Type 0} → Said A → Said (Unit {0})

@@ -1,13 +1,13 @@
 -- The cases of the reading of a code, each from the tests that lead to it.
 -- Assumes nothing.
 use mathlib.Core.Path.{_≡_, refl, sym, _∙_, ap}
-use mathlib.Core.Bool.{Bool, true, false, _&&_}
+use mathlib.Core.Bool.{Bool, true, false, _&&_, cond}
 use mathlib.Core.List.{[], _∷_}
 use Prim.Native.Nat.{ℕ, _+_, _-_, _/_, _%_, _≤_, _<_}
 use native.Mathlib.Omega.{arith}
 use borrow.Author.Tests.{lt-ltb, le-ltb, eq-eqb, ne-eqb}
 use lib.Dec.{eqb, ltb}
-use Rattle.base.specs.Said.{Said, gives, refuses, either}
+use Rattle.base.specs.Said.{Said, gives, refuses}
 use Rattle.rc.specs.declared.code.Code.{Code}
 use Rattle.rc.specs.declared.code.Code.the-variants.{Fmt0, Warn, Fmt1, Parameter, Handle, Session}
 use Rattle.rc.specs.Known.{isKnown}
@@ -27,7 +27,7 @@ module _ (value : ℕ) where
   fmt0-unknown k = simp k
 
   pub fmt0-known : isKnown value ≡ true → (t : Bool) → (bit 256 value && bit 2048 value) ≡ t
-      → gives (either t (Warn (base value)) (Fmt0 (base value))) ≡ readFmt0 value
+      → gives (cond t (Warn (base value)) (Fmt0 (base value))) ≡ readFmt0 value
   unfolding readFmt0
   fmt0-known k t e = simp (k, e)
 

@@ -1,7 +1,7 @@
 -- What reads is exactly what Part 2's layout has, in one way, and a code that was read has the value it was read from.
 -- Assumes nothing.
 use mathlib.Core.Path.{_≡_, refl, sym, _∙_, ap, subst}
-use mathlib.Core.Bool.{Bool, true, false, _&&_}
+use mathlib.Core.Bool.{Bool, true, false, _&&_, cond}
 use mathlib.Core.List.{List, [], _∷_}
 use mathlib.Core.Logic.{_⊎_, inl, inr, ⊎-elim, _↔_}
 use Prim.Native.Nat.{ℕ, _+_, _-_, _*_, _/_, _%_, _^_, _≤_, _<_}
@@ -10,8 +10,8 @@ use borrow.Author.Tests.{eqb-true, eqb-false, ltb-true, ltb-false, eq-eqb}
 use lib.Bits.{bitOr, or-block, or-zero-r, or-shifted-r}
 use lib.Dec.{eqb, ltb}
 use lib.Pow.{shr-shr}
-use Rattle.base.specs.Said.{Said, gives, refuses, either, needs}
-use Rattle.base.proofs.Checks.{needs-gives, either-gives, gives-injective}
+use Rattle.base.specs.Said.{Said, gives, refuses, needs}
+use Rattle.base.proofs.Checks.{needs-gives, cond-gives, gives-injective}
 use Rattle.rc.specs.declared.code.Code.{Code}
 use Rattle.rc.specs.declared.code.Code.the-variants.{Fmt0, Warn, Fmt1, Parameter, Handle, Session}
 use Rattle.rc.specs.Known.{isKnown}
@@ -56,7 +56,7 @@ module _ (value : ℕ) where
   sound-index : (b n : ℕ) → OfFmt1 b → n < 16 → value ≡ n * 256 + b → (c : Code) → readIndex value b false n ≡ gives c → Sound value c
   unfolding readIndex
   sound-index b n w h v c e =
-      ⊎-elim none (λ some. ⊎-elim (of-handle (eqb-false n 0 (some .0))) of-session (either-gives (ltb n 8) _ _ (some .1))) (either-gives (eqb n 0) _ _ e)
+      ⊎-elim none (λ some. ⊎-elim (of-handle (eqb-false n 0 (some .0))) of-session (cond-gives (ltb n 8) _ _ (some .1))) (cond-gives (eqb n 0) _ _ e)
     where
       none : (eqb n 0 ≡ true) × (gives (Fmt1 (base b)) ≡ gives c) → Sound value c
       none p =
@@ -98,7 +98,7 @@ module _ (value : ℕ) where
       by (found .0) (bit 256 value && bit 2048 value) refl (found .1)
     where
       by : isKnown value ≡ true → (p : Bool) → (bit 256 value && bit 2048 value) ≡ p
-          → gives (either p (Warn (base value)) (Fmt0 (base value))) ≡ gives c → Sound value c
+          → gives (cond p (Warn (base value)) (Fmt0 (base value))) ≡ gives c → Sound value c
       by k true p r = subst (Sound value) (gives-injective r) (((k, t), p), refl)
       by k false p r = subst (Sound value) (gives-injective r) (((k, t), p), refl)
 
@@ -106,7 +106,7 @@ module _ (value : ℕ) where
   unfolding readCode
   sound c e =
       ⊎-elim (λ p. sound-fmt1 (eqb-true (value / 128 % 2) 1 (p .0)) c (p .1)) (λ p. sound-fmt0 (p .0) c (p .1))
-      (either-gives (bit 128 value) _ _ e)
+      (cond-gives (bit 128 value) _ _ e)
 
 -- ---- complete: a well-formed code is what its value reads as
 
@@ -118,7 +118,7 @@ opened value b n h t p k q =
     ∙ (λ i. readIndex value (p i) (bit 64 value) (q i))
 
 complete-fmt0 : (value : ℕ) → OfFmt0 value → (p : Bool) → (bit 256 value && bit 2048 value) ≡ p
-    → readCode value ≡ gives (either p (Warn (base value)) (Fmt0 (base value)))
+    → readCode value ≡ gives (cond p (Warn (base value)) (Fmt0 (base value)))
 unfolding readCode readFmt0
 complete-fmt0 value w p e = simp (w .1, w .0, e)
 
@@ -154,18 +154,18 @@ module _ (value : ℕ) where
   five-needs true rest h = h
   five-needs false rest h = refl
 
-  five-either : (t : Bool) (x y : Said Code) → OnlyFive value x → OnlyFive value y → OnlyFive value (either t x y)
-  five-either true x y h k = h
-  five-either false x y h k = k
+  five-cond : (t : Bool) (x y : Said Code) → OnlyFive value x → OnlyFive value y → OnlyFive value (cond t x y)
+  five-cond true x y h k = h
+  five-cond false x y h k = k
 
   five-index : (b : ℕ) (p : Bool) (n : ℕ) → OnlyFive value (readIndex value b p n)
   unfolding readIndex
-  five-index b p n = five-either p _ _ (five-needs (ltb 0 n) _ tt) (five-either (eqb n 0) _ _ tt (five-either (ltb n 8) _ _ tt tt))
+  five-index b p n = five-cond p _ _ (five-needs (ltb 0 n) _ tt) (five-cond (eqb n 0) _ _ tt (five-cond (ltb n 8) _ _ tt tt))
 
   only-five : OnlyFive value (readCode value)
   unfolding readCode readFmt1 readFmt0
   only-five =
-      five-either (bit 128 value) _ _ (five-needs (ltb value 4096) _ (five-needs (isKnown (128 + value % 64)) _ (five-index (128 + value % 64) (bit 64 value) (value / 256 % 16))))
+      five-cond (bit 128 value) _ _ (five-needs (ltb value 4096) _ (five-needs (isKnown (128 + value % 64)) _ (five-index (128 + value % 64) (bit 64 value) (value / 256 % 16))))
       (five-needs (isKnown value) _ tt)
 
   pub refusals : (why : List ℕ) → readCode value ≡ refuses why → why ≡ 5 ∷ 0 ∷ value ∷ []

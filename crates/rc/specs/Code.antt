@@ -1,12 +1,12 @@
 -- What a response code says (document 01, "Response code"; Part 2, TPM_RC and its format one), and the value of what is said.
 -- Assumes nothing: these are definitions.
 use Prim.Native.Nat.{ℕ, _+_, _-_, _*_, _/_, _%_}
-use mathlib.Core.Bool.{Bool, _&&_}
+use mathlib.Core.Bool.{Bool, _&&_, cond}
 use mathlib.Core.List.{List, [], _∷_}
 use lib.Bits.{bitOr}
 use lib.Dec.{eqb, ltb}
 use Rattle.base.specs.Error.{numbered}
-use Rattle.base.specs.Said.{Said, gives, refuses, either, needs}
+use Rattle.base.specs.Said.{Said, gives, refuses, needs}
 use Rattle.rc.specs.declared.code.TpmRcBase.{TpmRcBase}
 use Rattle.rc.specs.declared.code.Code.{Code}
 use Rattle.rc.specs.declared.code.Code.the-variants.{Fmt0, Warn, Fmt1, Parameter, Handle, Session}
@@ -24,10 +24,10 @@ base b = record { 0 = b }
 -- format one, bit 7 set: P, bit 6, with N, bits 8 to 11, says which part the code speaks of
 unfoldable pub readIndex : ℕ → ℕ → Bool → ℕ → Said Code
 readIndex value b p n =
-    either p
+    cond p
     (needs (ltb 0 n) (5 ∷ 0 ∷ value ∷ []) (gives (Parameter (base b) n)))
-    (either (eqb n 0) (gives (Fmt1 (base b)))
-    (either (ltb n 8) (gives (Handle (base b) n))
+    (cond (eqb n 0) (gives (Fmt1 (base b)))
+    (cond (ltb n 8) (gives (Handle (base b) n))
     (gives (Session (base b) (n - 8)))))
 
 unfoldable pub readFmt1 : ℕ → Said Code
@@ -40,10 +40,10 @@ readFmt1 value =
 unfoldable pub readFmt0 : ℕ → Said Code
 readFmt0 value =
     needs (isKnown value) (5 ∷ 0 ∷ value ∷ [])
-    (gives (either (bit 256 value && bit 2048 value) (Warn (base value)) (Fmt0 (base value))))
+    (gives (cond (bit 256 value && bit 2048 value) (Warn (base value)) (Fmt0 (base value))))
 
 unfoldable pub readCode : ℕ → Said Code
-readCode value = either (bit 128 value) (readFmt1 value) (readFmt0 value)
+readCode value = cond (bit 128 value) (readFmt1 value) (readFmt0 value)
 
 -- the value of a code: the base, P at bit 6, the index at bits 8 to 11, masked to four bits
 abbrev pub valueOf : Code → ℕ
@@ -82,12 +82,12 @@ indexOf (Session b n) = n
 -- the code of a kind's number; there are six kinds
 unfoldable pub ofParts : ℕ → ℕ → ℕ → Said Code
 ofParts kind b n =
-    either (eqb kind 0) (gives (Fmt0 (base b)))
-    (either (eqb kind 1) (gives (Warn (base b)))
-    (either (eqb kind 2) (gives (Fmt1 (base b)))
-    (either (eqb kind 3) (gives (Parameter (base b) n))
-    (either (eqb kind 4) (gives (Handle (base b) n))
-    (either (eqb kind 5) (gives (Session (base b) n))
+    cond (eqb kind 0) (gives (Fmt0 (base b)))
+    (cond (eqb kind 1) (gives (Warn (base b)))
+    (cond (eqb kind 2) (gives (Fmt1 (base b)))
+    (cond (eqb kind 3) (gives (Parameter (base b) n))
+    (cond (eqb kind 4) (gives (Handle (base b) n))
+    (cond (eqb kind 5) (gives (Session (base b) n))
     (refuses (5 ∷ 0 ∷ kind ∷ [])))))))
 
 abbrev pub saidCode : Answer → Said Code
