@@ -2,6 +2,7 @@ pub mod Answers
 pub mod Bytes
 pub mod Checks
 pub mod Lists
+pub mod Places
 pub mod Refusals
 pub mod Single
 pub mod Tables

@@ -1,0 +1,61 @@
+-- Bytes that stand at a place of others: put together and taken apart, so that a layout can be read piece by piece.
+-- Assumes nothing.
+use mathlib.Core.Path.{_≡_, refl, sym, _∙_, ap}
+use mathlib.Core.List.{List, [], _∷_, _++_, append-assoc}
+use Prim.Native.Nat.{ℕ, _+_, _-_, _≤_}
+use native.Mathlib.Nat.{le-refl}
+use native.Mathlib.Omega.{arith}
+use lib.ListN.{length, take, drop, length-append, length-drop, take-append-drop}
+use lib.Seq.{take-at, drop-at, drop-drop, length-take-le, take-length}
+use Rattle.base.specs.Bytes.{number}
+
+-- x stands at a place of s
+pub record At (s : List ℕ) (place : ℕ) (x : List ℕ) : Type 0 where
+  pub inside : place + length x ≤ length s
+  pub there : take (length x) (drop place s) ≡ x
+
+module _ {s : List ℕ} {place : ℕ} where
+  -- from the place on it is followed by what stands behind it, and so it can be told
+  pub at-from : {x : List ℕ} → At s place x → drop place s ≡ x ++ drop (place + length x) s
+  at-from {x} a = sym (take-append-drop (length x) (drop place s)) ∙ (λ i. (a .there) i ++ drop-drop (length x) place s i)
+
+  pub at-by : (x t : List ℕ) → place ≤ length s → drop place s ≡ x ++ t → At s place x
+  at-by x t h e =
+      let long : length s - place ≡ length x + length t = sym (length-drop place s) ∙ ap length e ∙ length-append x t in
+      record { inside = omega arith; there = ap (take (length x)) e ∙ take-at x t (length x) refl }
+
+module _ {s : List ℕ} {place : ℕ} where
+  pub at-first : (x y : List ℕ) → At s place (x ++ y) → At s place x
+  at-first x y a =
+      let inside = a .inside in
+      let t = drop (place + length (x ++ y)) s in
+      at-by x (y ++ t) (omega arith) (at-from a ∙ append-assoc x y t)
+
+  pub at-second : (x y : List ℕ) → At s place (x ++ y) → At s (place + length x) y
+  at-second x y a =
+      let t = drop (place + length (x ++ y)) s in
+      let inside : place + (length x + length y) ≤ length s = rw (← length-append x y) (a .inside) in
+      at-by y t (omega arith)
+      (sym (drop-drop (length x) place s)
+      ∙ ap (drop (length x)) (at-from a ∙ append-assoc x y t)
+      ∙ drop-at x (y ++ t) (length x) refl)
+
+  pub at-both : {x y : List ℕ} → At s place x → At s (place + length x) y → At s place (x ++ y)
+  at-both {x} {y} a b =
+      let inside = a .inside in
+      let t = drop (place + length x + length y) s in
+      at-by (x ++ y) t (omega arith)
+      (at-from a ∙ ap (λ (u : List ℕ). x ++ u) (at-from b) ∙ sym (append-assoc x y t))
+
+-- what is read at a place stands there
+pub at-read : (s : List ℕ) (place n : ℕ) → place + n ≤ length s → At s place (take n (drop place s))
+at-read s place n h =
+    let long : length (take n (drop place s)) ≡ n = length-take-le n (drop place s) (rw length-drop (omega arith)) in
+    record { inside = rw long h; there = ap (λ (k : ℕ). take k (drop place s)) long }
+
+-- all of s stands at its start, and what stands there and is as long is s
+pub at-all : (s : List ℕ) → At s 0 s
+at-all s = record { inside = omega arith; there = take-length s }
+
+pub at-whole : {s x : List ℕ} → At s 0 x → length x ≡ length s → x ≡ s
+at-whole {s} {x} a e = sym (a .there) ∙ ap (λ (n : ℕ). take n s) e ∙ take-length s

@@ -1,0 +1,4 @@
+pub mod Dispatch
+pub mod Packed
+pub mod Table
+pub mod Tags

@@ -1,0 +1,13 @@
+-- How the code writes a row in one number: from right to left a hexadecimal digit for the response handles, one for the handles, and
+-- the code.
+-- Assumes nothing: these are definitions.
+use Prim.Native.Nat.{ℕ, _/_, _%_}
+use mathlib.Core.List.{List, [], _∷_}
+use Rattle.table.specs.declared.row.Row.{Row}
+
+abbrev pub rowOf : ℕ → Row
+rowOf n = record { code = n / 256; handles = n / 16 % 16; responses = n % 16 }
+
+abbrev pub unpacked : List ℕ → List Row
+unpacked [] = []
+unpacked (n ∷ rows) = rowOf n ∷ unpacked rows

@@ -1,0 +1,227 @@
+// The dispatch table, strictly rising by code, and its search. A row is one number that is read from its digits: 0x11f_2_0 is code
+// 0x11f with 2 handles and 0 response handles. The table stands in parts of up to sixteen rows, since a constant is laid out anew
+// where it is used: a search lays out the part that its code can stand in, and no more.
+ghost use mathlib.Core.Path.{_≡_};
+ghost use mathlib.Core.Bool.{true};
+ghost use Rattle.base.specs.Members.{isIn};
+ghost use Rattle.table.specs.Dispatch.{commandCodes, dispatch};
+ghost use Rattle.table.specs.Table.{rising, rowFor, saidFound};
+ghost use Rattle.table.specs.Packed.{unpacked};
+use crate::row::Found;
+use crate::row::Row;
+use base::code::TpmCc;
+
+const FROM_11F: [u64; 16] = [
+    0x11f_2_0,
+    0x120_2_0,
+    0x121_1_0,
+    0x122_2_0,
+    0x124_1_0,
+    0x125_1_0,
+    0x126_1_0,
+    0x127_1_0,
+    0x128_1_0,
+    0x129_1_0,
+    0x12a_1_0,
+    0x12b_1_0,
+    0x12c_1_0,
+    0x12d_1_0,
+    0x12e_1_0,
+    0x12f_2_0,
+];
+
+const FROM_130: [u64; 16] = [
+    0x130_1_0,
+    0x131_1_1,
+    0x132_1_0,
+    0x133_2_0,
+    0x134_2_0,
+    0x135_2_0,
+    0x136_2_0,
+    0x137_2_0,
+    0x138_2_0,
+    0x139_1_0,
+    0x13a_1_0,
+    0x13b_1_0,
+    0x13c_1_0,
+    0x13d_1_0,
+    0x13e_1_0,
+    0x13f_1_0,
+];
+
+const FROM_140: [u64; 16] = [
+    0x140_1_0,
+    0x141_0_0,
+    0x142_0_0,
+    0x143_0_0,
+    0x144_0_0,
+    0x145_0_0,
+    0x146_0_0,
+    0x147_2_0,
+    0x148_2_0,
+    0x149_3_0,
+    0x14a_2_0,
+    0x14b_2_0,
+    0x14c_2_0,
+    0x14d_3_0,
+    0x14e_2_0,
+    0x14f_2_0,
+];
+
+const FROM_150: [u64; 16] = [
+    0x150_2_0,
+    0x151_2_0,
+    0x152_2_0,
+    0x153_1_0,
+    0x154_1_0,
+    0x155_1_0,
+    0x156_1_0,
+    0x157_1_1,
+    0x158_1_0,
+    0x159_1_0,
+    0x15b_1_1,
+    0x15c_1_0,
+    0x15d_1_0,
+    0x15e_1_0,
+    0x160_2_0,
+    0x161_0_1,
+];
+
+const FROM_162: [u64; 16] = [
+    0x162_1_0,
+    0x163_1_0,
+    0x164_1_0,
+    0x165_0_0,
+    0x167_0_1,
+    0x168_1_0,
+    0x169_1_0,
+    0x16a_1_0,
+    0x16b_1_0,
+    0x16c_1_0,
+    0x16d_1_0,
+    0x16e_1_0,
+    0x16f_1_0,
+    0x170_1_0,
+    0x171_1_0,
+    0x172_1_0,
+];
+
+const FROM_173: [u64; 16] = [
+    0x173_1_0,
+    0x174_1_0,
+    0x176_2_1,
+    0x177_1_0,
+    0x178_0_0,
+    0x179_0_0,
+    0x17a_0_0,
+    0x17b_0_0,
+    0x17c_0_0,
+    0x17d_0_0,
+    0x17e_0_0,
+    0x17f_1_0,
+    0x180_1_0,
+    0x181_0_0,
+    0x182_1_0,
+    0x183_1_0,
+];
+
+const FROM_184: [u64; 16] = [
+    0x184_3_0,
+    0x185_2_0,
+    0x186_0_1,
+    0x187_1_0,
+    0x188_1_0,
+    0x189_1_0,
+    0x18a_0_0,
+    0x18b_1_0,
+    0x18c_1_0,
+    0x18d_1_0,
+    0x18e_0_0,
+    0x18f_1_0,
+    0x190_1_0,
+    0x191_1_1,
+    0x192_3_0,
+    0x193_1_0,
+];
+
+const FROM_194: [u64; 14] = [
+    0x194_1_0,
+    0x195_3_0,
+    0x196_1_0,
+    0x198_1_0,
+    0x199_1_0,
+    0x19a_1_0,
+    0x19b_1_0,
+    0x19c_1_0,
+    0x19d_1_0,
+    0x19e_1_0,
+    0x19f_1_0,
+    0x1a0_1_0,
+    0x1a1_1_0,
+    0x20000000_0_0,
+];
+
+// The row of a code in a part of the table: the code's row stands between lo and hi, if anywhere.
+fn within(rows: &[u64], cc: TpmCc) -> Found
+    requires { ⌜ rising (unpacked (now rows)) ≡ true ⌝ }
+    ensures { λ r. ⌜ saidFound r ≡ rowFor (unpacked (now (rows .entry))) (cc .0) ⌝ }
+{
+    let code = cc.0 as u64;
+    let mut lo = 0;
+    let mut hi = rows.len();
+    while lo < hi {
+        let mid = lo + (hi - lo) / 2;
+        let row = rows[mid];
+        if row / 256 == code {
+            return Found::Is(Row {
+                code: cc.0,
+                handles: (row / 16 % 16) as u8,
+                responses: (row % 16) as u8,
+            });
+        }
+        if row / 256 < code {
+            lo = mid + 1;
+        } else {
+            hi = mid;
+        }
+    }
+    Found::Refused(cc.refused(0))
+}
+
+// The row of a code.
+pub fn find(cc: TpmCc) -> Found
+    ensures { λ r. ⌜ saidFound r ≡ rowFor dispatch (cc .0) ⌝ }
+{
+    if cc.0 < 0x130 {
+        return within(&FROM_11F, cc);
+    }
+    if cc.0 < 0x140 {
+        return within(&FROM_130, cc);
+    }
+    if cc.0 < 0x150 {
+        return within(&FROM_140, cc);
+    }
+    if cc.0 < 0x162 {
+        return within(&FROM_150, cc);
+    }
+    if cc.0 < 0x173 {
+        return within(&FROM_162, cc);
+    }
+    if cc.0 < 0x184 {
+        return within(&FROM_173, cc);
+    }
+    if cc.0 < 0x194 {
+        return within(&FROM_184, cc);
+    }
+    within(&FROM_194, cc)
+}
+
+// Whether TpmCc has a code.
+pub fn known(cc: TpmCc) -> bool
+    ensures { λ r. ⌜ r ≡ isIn (cc .0) commandCodes ⌝ }
+{
+    match find(cc) {
+        Found::Is(_) => true,
+        Found::Refused(_) => false,
+    }
+}
