@@ -82,7 +82,13 @@ bytes-number (b ∷ s) p =
     let digit : (b * 256 ^ k + number s) / 256 ^ k % 256 ≡ b = rw (digits-div b (number-lt s (p .1))) (mod-eq-of-lt (p .0)) in
     λ i. digit i ∷ (bytes-above k b (number s) ∙ bytes-number s (p .1)) i
 
--- the two widths of the code, digit by digit
+-- the widths of the code, digit by digit
+pub one-byte : (n : ℕ) → n < 256 → n ∷ [] ≡ bytes 1 n
+unfolding bytes
+one-byte n h =
+    let p : n ≡ (n / 1) % 256 = omega arith in
+    λ i. p i ∷ []
+
 pub two-bytes : (n : ℕ) → n < 65536 → n / 256 ∷ n % 256 ∷ [] ≡ bytes 2 n
 unfolding bytes
 two-bytes n h =

@@ -1,7 +1,7 @@
 -- An order of checks that gives an answer has passed each check: how a definition made of needs, cond and then is taken apart.
 -- Assumes nothing.
 use mathlib.Core.Path.{_≡_, refl, subst, sym, ap}
-use mathlib.Core.Bool.{Bool, true, false, cond}
+use mathlib.Core.Bool.{Bool, true, false, cond, false≢true}
 use mathlib.Core.List.{List}
 use mathlib.Core.Logic.{_⊎_, inl, inr}
 use Prim.Native.Nat.{ℕ}
@@ -33,6 +33,22 @@ module _ {A : Type 0} where
   pub then-gives : {B : Type 0} (s : Said A) (f : A → Said B) {b : B} → then s f ≡ gives b → (a : A) × (s ≡ gives a) × (f a ≡ gives b)
   then-gives (gives a) f e = (a, refl, e)
   then-gives (refuses why) f e = absurd (gives≢refuses (sym e))
+
+  -- the other way: a check that passes goes on, and one that fails refuses; so does a step
+  pub passes : (t : Bool) (why : List ℕ) (rest : Said A) → t ≡ true → rest ≡ needs t why rest
+  passes true why rest e = refl
+  passes false why rest e = absurd (false≢true e)
+
+  pub fails : (t : Bool) (why : List ℕ) (rest : Said A) → t ≡ false → refuses why ≡ needs t why rest
+  fails true why rest e = absurd (false≢true (sym e))
+  fails false why rest e = refl
+
+  module _ {B : Type 0} (s : Said A) (f : A → Said B) where
+    pub goes-on : {a : A} → gives a ≡ s → f a ≡ then s f
+    goes-on e = ap (λ (t : Said A). then t f) e
+
+    pub stops : {why : List ℕ} → refuses why ≡ s → refuses why ≡ then s f
+    stops e = ap (λ (t : Said A). then t f) e
 
   -- the answer of a call that was done, and of one that was refused
   pub done-gives : (s : Said A) → gives tt ≡ done s → (a : A) × (gives a ≡ s)

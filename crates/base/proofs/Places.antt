@@ -1,18 +1,21 @@
 -- Bytes that stand at a place of others: put together and taken apart, so that a layout can be read piece by piece.
 -- Assumes nothing.
-use mathlib.Core.Path.{_≡_, refl, sym, _∙_, ap}
+use mathlib.Core.Path.{_≡_, refl, subst, sym, _∙_, ap}
 use mathlib.Core.List.{List, [], _∷_, _++_, append-assoc}
 use Prim.Native.Nat.{ℕ, _+_, _-_, _≤_}
 use native.Mathlib.Nat.{le-refl}
 use native.Mathlib.Omega.{arith}
 use lib.ListN.{length, take, drop, length-append, length-drop, take-append-drop}
-use lib.Seq.{take-at, drop-at, drop-drop, length-take-le, take-length}
+use lib.Seq.{take-at, drop-at, drop-drop, length-take-le, take-length, take-append-le, drop-append-le}
 use Rattle.base.specs.Bytes.{number}
 
 -- x stands at a place of s
 pub record At (s : List ℕ) (place : ℕ) (x : List ℕ) : Type 0 where
   pub inside : place + length x ≤ length s
   pub there : take (length x) (drop place s) ≡ x
+
+pub at-moved : {s x : List ℕ} {place later : ℕ} → place ≡ later → At s place x → At s later x
+at-moved {s} {x} e a = subst (λ (p : ℕ). At s p x) e a
 
 module _ {s : List ℕ} {place : ℕ} where
   -- from the place on it is followed by what stands behind it, and so it can be told
@@ -47,11 +50,21 @@ module _ {s : List ℕ} {place : ℕ} where
       at-by (x ++ y) t (omega arith)
       (at-from a ∙ ap (λ (u : List ℕ). x ++ u) (at-from b) ∙ sym (append-assoc x y t))
 
--- what is read at a place stands there
-pub at-read : (s : List ℕ) (place n : ℕ) → place + n ≤ length s → At s place (take n (drop place s))
-at-read s place n h =
-    let long : length (take n (drop place s)) ≡ n = length-take-le n (drop place s) (rw length-drop (omega arith)) in
-    record { inside = rw long h; there = ap (λ (k : ℕ). take k (drop place s)) long }
+-- what is read at a place is as long as was asked for, and stands there
+module _ (s : List ℕ) (place n : ℕ) (h : place + n ≤ length s) where
+  pub length-read : length (take n (drop place s)) ≡ n
+  length-read = length-take-le n (drop place s) (rw length-drop (omega arith))
+
+  pub at-read : At s place (take n (drop place s))
+  at-read = record { inside = rw length-read h; there = ap (λ (k : ℕ). take k (drop place s)) length-read }
+
+-- what is read inside the first n bytes is the same in all of them
+pub read-within : (n : ℕ) (s : List ℕ) (place m : ℕ) → place + m ≤ length (take n s) → take m (drop place (take n s)) ≡ take m (drop place s)
+read-within n s place m h =
+    let few : m ≤ length (drop place (take n s)) = rw length-drop (omega arith) in
+    sym (take-append-le m (drop place (take n s)) (drop n s) few)
+    ∙ ap (take m) (sym (drop-append-le place (take n s) (drop n s) (omega arith)))
+    ∙ ap (λ (t : List ℕ). take m (drop place t)) (take-append-drop n s)
 
 -- all of s stands at its start, and what stands there and is as long is s
 pub at-all : (s : List ℕ) → At s 0 s

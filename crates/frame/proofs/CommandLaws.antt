@@ -1,0 +1,241 @@
+-- A command passes exactly where it is the layout of well-formed parts, over any rows and any list of known codes that holds
+-- theirs; the parts read are those laid out.
+-- Assumes nothing.
+use mathlib.Core.Path.{_≡_, refl, sym, _∙_, ap, subst}
+use mathlib.Core.Bool.{true, false}
+use mathlib.Core.List.{List, []}
+use mathlib.Core.Logic.{_↔_}
+use Prim.Native.Nat.{ℕ, _+_, _-_, _*_, _≤_, _<_}
+use native.Mathlib.Nat.{le-refl}
+use native.Mathlib.Omega.{arith}
+use borrow.Author.Tests.{le-leb}
+use lib.Dec.{eqb, leb}
+use lib.ListN.{length, take, drop}
+use lib.Seq.{length-take-le}
+use Rattle.base.specs.Bytes.{AreBytes}
+use Rattle.base.specs.Members.{isIn}
+use Rattle.base.specs.Said.{gives}
+use Rattle.base.proofs.Bytes.{are-bytes-take, are-bytes-drop}
+use Rattle.base.proofs.Checks.{needs-gives, then-gives, gives-injective}
+use Rattle.table.specs.Table.{rowFor}
+use Rattle.table.specs.Tags.{tags}
+use Rattle.table.specs.declared.row.Row.{Row}
+use Rattle.frame.specs.declared.areas.Areas.{Areas}
+use Rattle.frame.specs.declared.session.Session.{Session}
+use Rattle.frame.specs.Areas.{sizedArea}
+use Rattle.frame.specs.Command.{Division, commandHandles, commandAreas, judgeCommand, castCommand, readCommand}
+use Rattle.frame.specs.Header.{tagOf, sizeOf, codeOf, sessions, isOfTwo, readCc, frameWhole, readFrameTag}
+use Rattle.frame.specs.Layout.{Frame, WellFormed, CommandParts, layoutEntries, layoutBody, layoutFrame, layoutCommand}
+use Rattle.frame.specs.Parts.{entriesIn, commandParts}
+use Rattle.frame.specs.Walk.{walk}
+use Rattle.frame.proofs.Divides.{exactly, one-division, equal}
+use Rattle.frame.proofs.FrameLaws.{
+  code-fits,
+  size-fits,
+  Framed,
+  frame-complete,
+  length-frame,
+  whole-sound,
+  whole-complete,
+  tag-sound,
+  tag-complete,
+  tag-fits,
+  Holds,
+  handles-sound,
+  handles-complete,
+  sized-order,
+  plain-places,
+  frame-again,
+  sized-complete,
+}
+use Rattle.frame.proofs.Standing.{between-at, behind-at, at-between, at-behind, at-within, at-inside, length-entries}
+use Rattle.frame.proofs.WalkLaws.{walk-sound, walk-complete, walk-within, walk-end}
+
+module _ (rows : List Row) (known : List ℕ) where
+  -- the steps of a reading that passed
+  record Steps (s : List ℕ) (d : Division) : Type 0 where
+    row : Row
+    ten : 10 ≤ length s
+    size-is : sizeOf s ≡ length s
+    tag-two : isOfTwo (tagOf s) ≡ true
+    tag-known : isIn (tagOf s) tags ≡ true
+    code-known : isIn (codeOf s) known ≡ true
+    has-row : rowFor rows (codeOf s) ≡ gives row
+    room : 10 + 4 * row .handles ≤ length s
+    sized : sizedArea (eqb (tagOf s) sessions) (10 + 4 * row .handles) s (10 + 4 * row .handles) ≡ gives (d .areas)
+    walked : walk 3 4 (take (d .areas .to) s) (d .areas .from) ≡ gives (d .entries)
+
+  steps-taken : (s : List ℕ) (d : Division) → readCommand rows known s ≡ gives d → Steps s d
+  unfolding readCommand castCommand judgeCommand commandAreas commandHandles readCc
+  steps-taken s d e =
+      let read = then-gives (castCommand rows known s) _ e in
+      let areas : Areas = read .0 in
+      let walked = then-gives (walk 3 4 (take (areas .to) s) (areas .from)) _ (read .2) in
+      let cast = then-gives (frameWhole s) _ (read .1) in
+      let judged = then-gives (readFrameTag s) _ (cast .2) in
+      let handled = then-gives (commandHandles rows known s) _ (judged .2) in
+      let tagged = needs-gives (isIn (tagOf s) tags) _ _ (handled .2) in
+      let coded = then-gives (readCc known s) _ (handled .1) in
+      let header = needs-gives (leb 10 (length s)) _ _ (coded .1) in
+      let listed = needs-gives (isIn (codeOf s) known) _ _ (header .1) in
+      let code : codeOf s ≡ coded .0 = gives-injective (listed .1) in
+      let found = then-gives (rowFor rows (coded .0)) _ (coded .2) in
+      let whole = whole-sound s (cast .1) in
+      let handles = handles-sound s (found .0 .handles) (whole .0) (found .2) in
+      subst (Steps s) (gives-injective (walked .2))
+      (record {
+        row = found .0;
+        ten = whole .0;
+        size-is = whole .1;
+        tag-two = tag-sound s (judged .1);
+        tag-known = tagged .0;
+        code-known = listed .0;
+        has-row = ap (rowFor rows) code ∙ found .1;
+        room = handles .1;
+        sized = ap (λ (h : ℕ). sizedArea (eqb (tagOf s) sessions) h s h) (sym (handles .0)) ∙ tagged .1;
+        walked = walked .1;
+      })
+
+  steps-pass : (s : List ℕ) (d : Division) → Steps s d → readCommand rows known s ≡ gives d
+  unfolding readCommand castCommand judgeCommand commandAreas commandHandles readCc
+  steps-pass s d t =
+      rw (whole-complete s (t .ten) (t .size-is), tag-complete s (t .ten) (t .tag-two), le-leb 10 (length s) (t .ten))
+      (rw (t .code-known, t .has-row, handles-complete s (t .row .handles) (t .room), t .tag-known, t .sized, t .walked) refl)
+
+  -- ---- a command that passes is the layout of the parts read, and they are well formed
+
+  -- under the plain tag there are no entries
+  plain-walk : (s : List ℕ) (d : Division) → Steps s d → eqb (tagOf s) sessions ≡ false → entriesIn s (d .entries) ≡ []
+  plain-walk s d t q =
+      let h : ℕ = 10 + 4 * t .row .handles in
+      let to : ℕ = d .areas .to in
+      let room = t .room in
+      let ends = plain-places h h s (rw q at (t .sized)) in
+      let short : length (take to s) ≡ to = length-take-le to s (omega arith) in
+      let walked : gives (d .entries) ≡ gives [] = sym (t .walked) ∙ walk-end 3 4 (take to s) (d .areas .from) (omega arith) in
+      ap (entriesIn s) (gives-injective walked)
+
+  pub command-sound : (s : List ℕ) → AreBytes s → (d : Division) → readCommand rows known s ≡ gives d
+      → CommandParts rows (commandParts s d) × (layoutCommand (commandParts s d) ≡ s)
+  unfolding commandParts layoutCommand
+  command-sound s p d e =
+      let t = steps-taken s d e in
+      let h : ℕ = 10 + 4 * t .row .handles in
+      let from : ℕ = d .areas .from in
+      let to : ℕ = d .areas .to in
+      let order = sized-order (eqb (tagOf s) sessions) h h s (le-refl h) (t .room) (t .sized) in
+      let short : length (take to s) ≡ to = length-take-le to s (order .3) in
+      let inside : from ≤ length (take to s) = rw short (order .2) in
+      let within : entriesIn (take to s) (d .entries) ≡ entriesIn s (d .entries) = walk-within 3 4 to s from inside (t .walked) in
+      let walked = rw within at (walk-sound 3 4 (take to s) from (are-bytes-take to s p) inside (t .walked)) in
+      let handles = at-between s 10 (d .areas .handles) (omega arith) (omega arith) in
+      let rest = at-behind s to (order .3) in
+      let again : layoutCommand (commandParts s d) ≡ s =
+      frame-again h h s p (t .size-is) (t .sized) (record {
+        handles-at = handles .0;
+        handles-end = handles .1;
+        sized-at = at-within to s (walked .0);
+        sized-end = walked .1 ∙ short;
+        rest-at = rest .0;
+        rest-end = rest .1;
+      }) in (
+        record {
+          row = t .row;
+          has-row = t .has-row;
+          well-formed = record {
+            tag-of-two = t .tag-two;
+            code-fits = code-fits s p (t .ten);
+            handle-bytes = are-bytes-take (d .areas .handles - 10) (drop 10 s) (are-bytes-drop 10 s p);
+            handle-count = omega (arith, handles .1);
+            whole-entries = walked .2;
+            three-entries = rw length-entries (walked .3);
+            plain-entries = plain-walk s d t;
+            parameter-bytes = are-bytes-drop to s p;
+          };
+          size-fits = rw again (size-fits s p (t .ten) (t .size-is));
+        },
+        again,
+      )
+
+  -- ---- the layout of well-formed parts passes, and they are the parts read
+
+  module _ (holds : (code : ℕ) (r : Row) → rowFor rows code ≡ gives r → isIn code known ≡ true)
+      (two-tags : (tag : ℕ) → isOfTwo tag ≡ true → isIn tag tags ≡ true) where
+    module _ (f : Frame) (row : Row) (found : rowFor rows (f .code) ≡ gives row) (w : WellFormed 4 (row .handles) f) (s : List ℕ)
+        (framed : Framed s (f .tag) (f .code) (layoutBody (f .tag) (f .handles) (layoutEntries 4 (f .entries)) (f .parameters))) where
+      module _ (areas : Areas) (held : Holds s areas (f .handles) (layoutEntries 4 (f .entries)) (f .parameters))
+          (sized : sizedArea (eqb (f .tag) sessions) (10 + 4 * row .handles) s (10 + 4 * row .handles) ≡ gives areas) where
+        -- from where the parts stand to the division
+        with-entries : (ds : List Session) → walk 3 4 (take (areas .to) s) (areas .from) ≡ gives ds
+            → areas .from ≤ length (take (areas .to) s) → entriesIn (take (areas .to) s) ds ≡ f .entries
+            → (d : Division) × (readCommand rows known s ≡ gives d) × (commandParts s d ≡ f)
+        unfolding commandParts
+        with-entries ds walked inside same =
+            let within : entriesIn (take (areas .to) s) ds ≡ entriesIn s ds = walk-within 3 4 (areas .to) s (areas .from) inside walked in
+            let d : Division = record { areas = areas; entries = ds } in
+            let tag : tagOf s ≡ f .tag = framed .tag-is in
+            let code : codeOf s ≡ f .code = framed .code-is in (
+              d,
+              steps-pass s d (record {
+                row = row;
+                ten = omega arith;
+                size-is = framed .size-is;
+                tag-two = rw tag (w .tag-of-two);
+                tag-known = rw tag (two-tags (f .tag) (w .tag-of-two));
+                code-known = rw code (holds (f .code) row found);
+                has-row = rw code found;
+                room = omega arith;
+                sized = rw tag sized;
+                walked = walked;
+              }),
+              (λ i. record {
+                tag = tag i;
+                code = code i;
+                handles = between-at (areas .handles) (held .handles-at) (held .handles-end) i;
+                entries = (sym within ∙ same) i;
+                parameters = behind-at (held .rest-at) (held .rest-end) i;
+              }),
+            )
+
+        with-areas : (d : Division) × (readCommand rows known s ≡ gives d) × (commandParts s d ≡ f)
+        with-areas =
+            let from : ℕ = areas .from in
+            let to : ℕ = areas .to in
+            let short : length (take to s) ≡ to = length-take-le to s (omega arith) in
+            let ends : from + length (layoutEntries 4 (f .entries)) ≡ length (take to s) = held .sized-end ∙ sym short in
+            let entries-at = at-inside to s (omega arith) (held .sized-at) in
+            let walked = walk-complete 3 4 (take to s) from (f .entries) (w .whole-entries) (w .three-entries) entries-at ends in
+            with-entries (walked .0) (walked .1) (omega arith) (walked .2)
+
+    pub command-complete : (f : Frame) → CommandParts rows f
+        → (d : Division) × (readCommand rows known (layoutCommand f) ≡ gives d) × (commandParts (layoutCommand f) d ≡ f)
+    unfolding layoutCommand
+    command-complete f c =
+        let w = c .well-formed in
+        let h : ℕ = 10 + 4 * c .row .handles in
+        let entries : List ℕ = layoutEntries 4 (f .entries) in
+        let body : List ℕ = layoutBody (f .tag) (f .handles) entries (f .parameters) in
+        let s : List ℕ = layoutFrame (f .tag) (f .code) body in
+        let long : length s ≡ 10 + length body = length-frame (f .tag) (f .code) body in
+        let small : length s < 4294967296 = c .size-fits in
+        let framed = frame-complete (f .tag) (f .code) body (tag-fits (f .tag) (w .tag-of-two)) (w .code-fits) (omega arith) in
+        let count : 10 + length (f .handles) ≡ h = ap (λ (n : ℕ). 10 + n) (w .handle-count) in
+        let stop : eqb (f .tag) sessions ≡ false → h + length entries ≡ h = λ q. rw (w .plain-entries q) (omega arith) in
+        let sized = sized-complete (eqb (f .tag) sessions) h h s (f .handles) entries (f .parameters) small count stop (framed .body-at) (framed .body-long) in
+        with-areas f (c .row) (c .has-row) w s framed (sized .0) (sized .2) (sized .1)
+
+    -- ---- and so
+
+    -- exactly the layouts of well-formed parts pass
+    pub command-exactly : (s : List ℕ) → AreBytes s
+        → ((d : Division) × (readCommand rows known s ≡ gives d)) ↔ ((f : Frame) × CommandParts rows f × (layoutCommand f ≡ s))
+    command-exactly = exactly (readCommand rows known) commandParts layoutCommand (CommandParts rows) command-sound command-complete
+
+    -- no command divides two ways
+    pub command-one-division : (f g : Frame) → CommandParts rows f → CommandParts rows g → layoutCommand f ≡ layoutCommand g → f ≡ g
+    command-one-division = one-division (readCommand rows known) commandParts layoutCommand (CommandParts rows) command-sound command-complete
+
+    -- two commands that pass have equal parts exactly where they have equal bytes
+    pub command-equal : (s t : List ℕ) → AreBytes s → AreBytes t → (d e : Division)
+        → readCommand rows known s ≡ gives d → readCommand rows known t ≡ gives e → (commandParts s d ≡ commandParts t e) ↔ (s ≡ t)
+    command-equal = equal (readCommand rows known) commandParts layoutCommand (CommandParts rows) command-sound command-complete

@@ -1,0 +1,241 @@
+-- The cases of the areas and of the reads of commands and responses, each from the tests that lead to it.
+-- Assumes nothing.
+use mathlib.Core.Path.{_≡_, refl, sym, _∙_, ap}
+use mathlib.Core.Bool.{Bool, true, false, cond}
+use mathlib.Core.List.{List, [], _∷_}
+use Prim.Native.Nat.{ℕ, _+_, _-_, _*_, _≤_, _<_}
+use native.Mathlib.Omega.{arith}
+use borrow.Author.Tests.{le-leb, lt-leb, leb-true}
+use lib.Dec.{eqb, leb}
+use lib.ListN.{length, take, length-take}
+use lib.Seq.{length-take-le}
+use Rattle.base.specs.Answer.{Part}
+use Rattle.base.specs.Field.{readField}
+use Rattle.base.specs.Members.{isIn}
+use Rattle.base.specs.Said.{Said, gives, refuses, needs, then}
+use Rattle.base.proofs.Checks.{passes, fails, goes-on, stops, needs-gives, then-gives, gives-injective, refuses-injective, gives≢refuses}
+use Rattle.table.specs.Table.{rowFor}
+use Rattle.table.specs.Tags.{tags}
+use Rattle.table.specs.declared.row.Row.{Row}
+use Rattle.frame.specs.declared.areas.Areas.{Areas}
+use Rattle.frame.specs.declared.session.Session.{Session}
+use Rattle.frame.specs.declared.session.Entries.{Entries}
+use Rattle.frame.specs.Answer.{entriesByValue, span, commandByValue, responseByValue}
+use Rattle.frame.specs.Areas.{handleArea, sizedArea}
+use Rattle.frame.specs.Command.{Division, commandHandles, commandAreas, judgeCommand, castCommand, castCommandPrefix, readCommand}
+use Rattle.frame.specs.Header.{tagOf, codeOf, sessions, plain, header, readCc, readRc, framePrefix, frameWhole, readFrameTag}
+use Rattle.frame.specs.Response.{judgeResponse, castResponse, castResponsePrefix, errorAreas, successAreas, responseAreas, readResponse}
+use Rattle.frame.specs.Walk.{walk, byValue}
+use Rattle.frame.proofs.FrameLaws.{sized-order}
+use Rattle.frame.proofs.Walks.{field-there}
+use Rattle.frame.proofs.Headers.{short-header, has-header, prefix-fits, whole-fits}
+
+-- ---- the areas
+
+module _ (h : ℕ) (s : List ℕ) where
+  pub handles-short : {left : ℕ} → left ≡ length s - 10 → left < 4 * h
+      → refuses (1 ∷ 10 ∷ (4 * h) ∷ left ∷ []) ≡ handleArea h s
+  unfolding handleArea
+  handles-short {left} e short = rw e (fails (leb (4 * h) (length s - 10)) _ _ (lt-leb (4 * h) (length s - 10) (omega arith)))
+
+  pub handles-read : 4 * h ≤ length s - 10 → gives (10 + 4 * h) ≡ handleArea h s
+  unfolding handleArea
+  handles-read enough = passes (leb (4 * h) (length s - 10)) _ _ (le-leb (4 * h) (length s - 10) enough)
+
+  -- where handles were read, they stand within the bytes
+  pub handles-fit : 10 ≤ length s → {p : ℕ} → gives p ≡ handleArea h s → (10 ≤ p) × (p ≤ length s)
+  unfolding handleArea
+  handles-fit ten e =
+      let enough = needs-gives (leb (4 * h) (length s - 10)) _ _ (sym e) in
+      let fits = leb-true (4 * h) (length s - 10) (enough .0) in
+      let is = gives-injective (enough .1) in
+      (omega arith, omega arith)
+
+module _ (end : ℕ) (s : List ℕ) (p : ℕ) where
+  pub sized-plain : {t : Bool} → t ≡ false → gives (record { handles = p; from = p; to = end }) ≡ sizedArea t end s p
+  unfolding sizedArea
+  sized-plain e = rw e
+
+  module _ {t : Bool} (e : t ≡ true) where
+    pub size-refused : {why : List ℕ} → refuses why ≡ readField 4 p s → refuses why ≡ sizedArea t end s p
+    unfolding sizedArea
+    size-refused read = rw e (stops (readField 4 p s) _ read)
+
+    module _ {n : ℕ} (read : gives n ≡ readField 4 p s) where
+      pub sized-short : length s - (p + 4) < n
+          → refuses (1 ∷ (p + 4) ∷ n ∷ (length s - (p + 4)) ∷ []) ≡ sizedArea t end s p
+      unfolding sizedArea
+      sized-short short =
+          rw e (fails (leb n (length s - (p + 4))) _ _ (lt-leb n (length s - (p + 4)) short) ∙ goes-on (readField 4 p s) _ read)
+
+      pub sized-read : n ≤ length s - (p + 4)
+          → gives (record { handles = p; from = p + 4; to = p + 4 + n }) ≡ sizedArea t end s p
+      unfolding sizedArea
+      sized-read enough =
+          rw e (passes (leb n (length s - (p + 4))) _ _ (le-leb n (length s - (p + 4)) enough) ∙ goes-on (readField 4 p s) _ read)
+
+  -- a size that was read stands within the bytes
+  pub size-there : {n : ℕ} → gives n ≡ readField 4 p s → p + 4 ≤ length s
+  size-there read = field-there 4 p s (omega arith) read
+
+-- ---- commands
+
+module _ (rows : List Row) (known : List ℕ) (s : List ℕ) where
+  pub command-header : {p : ℕ} → gives p ≡ commandHandles rows known s → (10 ≤ length s) × (10 ≤ p) × (p ≤ length s)
+  unfolding commandHandles readCc
+  command-header e =
+      let code = then-gives (readCc known s) _ (sym e) in
+      let there = needs-gives (leb 10 (length s)) _ _ (code .1) in
+      let row = then-gives (rowFor rows (code .0)) _ (code .2) in
+      let ten = leb-true 10 (length s) (there .0) in
+      let fits = handles-fit (row .0 .handles) s ten (sym (row .2)) in
+      (ten, fits .0, fits .1)
+
+  module _ {p : ℕ} (e : gives p ≡ commandHandles rows known s) where
+    pub areas-tag-refused : {n : ℕ} → n ≡ tagOf s → isIn n tags ≡ false → refuses (3 ∷ 0 ∷ n ∷ []) ≡ commandAreas rows known s
+    unfolding commandAreas
+    areas-tag-refused {n} is unknown =
+        rw is (fails (isIn (tagOf s) tags) _ (sizedArea (eqb (tagOf s) sessions) p s p) (rw (← is) unknown))
+        ∙ goes-on (commandHandles rows known s) _ e
+
+    pub areas-sized : {n : ℕ} → n ≡ tagOf s → isIn n tags ≡ true → sizedArea (eqb n sessions) p s p ≡ commandAreas rows known s
+    unfolding commandAreas
+    areas-sized {n} is member =
+        rw is (passes (isIn (tagOf s) tags) _ (sizedArea (eqb (tagOf s) sessions) p s p) (rw (← is) member))
+        ∙ goes-on (commandHandles rows known s) _ e
+
+  pub areas-fit : {a : Areas} → gives a ≡ commandAreas rows known s
+      → (10 ≤ length s) × (10 ≤ a .handles) × (a .handles ≤ a .from) × (a .from ≤ a .to) × (a .to ≤ length s)
+  unfolding commandAreas
+  areas-fit e =
+      let handles = then-gives (commandHandles rows known s) _ (sym e) in
+      let tag = needs-gives (isIn (tagOf s) tags) _ _ (handles .2) in
+      let at = command-header (sym (handles .1)) in
+      let fits = sized-order (eqb (tagOf s) sessions) (handles .0) (handles .0) s (omega arith) (at .2) (tag .1) in
+      (at .0, rw (fits .0) (at .1), rw (fits .0) (fits .1), fits .2, fits .3)
+
+  pub cast-fits : {a : Areas} → gives a ≡ castCommand rows known s
+      → (10 ≤ length s) × (10 ≤ a .handles) × (a .handles ≤ a .from) × (a .from ≤ a .to) × (a .to ≤ length s)
+  unfolding castCommand judgeCommand
+  cast-fits e =
+      let size = then-gives (frameWhole s) _ (sym e) in
+      let tag = then-gives (readFrameTag s) _ (size .2) in
+      areas-fit (sym (tag .2))
+
+-- ---- responses
+
+pub response-header : (s : List ℕ) {n : ℕ} → gives n ≡ castResponse s → 10 ≤ length s
+unfolding castResponse
+response-header s e = whole-fits s (sym (then-gives (frameWhole s) _ (sym e) .1))
+
+module _ (s : List ℕ) where
+  pub error-tag : {n : ℕ} → n ≡ tagOf s → eqb n plain ≡ false → refuses (3 ∷ 0 ∷ n ∷ []) ≡ errorAreas s
+  unfolding errorAreas
+  error-tag is other = rw is (fails (eqb (tagOf s) plain) _ _ (rw (← is) other))
+
+  pub error-long : {n : ℕ} → n ≡ tagOf s → eqb n plain ≡ true → 10 < length s → refuses (2 ∷ 10 ∷ (length s - 10) ∷ []) ≡ errorAreas s
+  unfolding errorAreas
+  error-long is two long = fails (leb (length s) 10) _ _ (lt-leb (length s) 10 long) ∙ passes (eqb (tagOf s) plain) _ _ (rw (← is) two)
+
+  pub error-read : {n : ℕ} → n ≡ tagOf s → eqb n plain ≡ true → length s ≤ 10
+      → gives (record { handles = 10; from = 10; to = 10 }) ≡ errorAreas s
+  unfolding errorAreas
+  error-read is two bare = passes (leb (length s) 10) _ _ (le-leb (length s) 10 bare) ∙ passes (eqb (tagOf s) plain) _ _ (rw (← is) two)
+
+module _ (rows : List Row) (cc : ℕ) (s : List ℕ) where
+  module _ {code : ℕ} (read : gives code ≡ castResponse s) where
+    pub areas-no-row : {why : List ℕ} → refuses why ≡ rowFor rows cc → refuses why ≡ responseAreas rows cc s
+    unfolding responseAreas
+    areas-no-row e = stops (rowFor rows cc) _ e ∙ goes-on (castResponse s) _ read
+
+    module _ {row : Row} (e : gives row ≡ rowFor rows cc) where
+      pub areas-success : eqb code 0 ≡ true → successAreas (row .responses) s ≡ responseAreas rows cc s
+      unfolding responseAreas
+      areas-success is =
+          ap (λ (t : Bool). cond t (successAreas (row .responses) s) (errorAreas s)) (sym is)
+          ∙ goes-on (rowFor rows cc) _ e ∙ goes-on (castResponse s) _ read
+
+      pub areas-error : eqb code 0 ≡ false → errorAreas s ≡ responseAreas rows cc s
+      unfolding responseAreas
+      areas-error is =
+          ap (λ (t : Bool). cond t (successAreas (row .responses) s) (errorAreas s)) (sym is)
+          ∙ goes-on (rowFor rows cc) _ e ∙ goes-on (castResponse s) _ read
+
+  pub read-header : {a : Areas} → gives a ≡ responseAreas rows cc s → 10 ≤ length s
+  unfolding responseAreas
+  read-header e = response-header s (sym (then-gives (castResponse s) _ (sym e) .1))
+
+-- ---- the full check: areas and then a walk, of either kind
+
+abbrev pub commandEntries : List ℕ → Areas → Said (List Session)
+commandEntries s a = walk 3 4 (take (a .to) s) (a .from)
+
+abbrev pub responseEntries : List ℕ → Areas → Said (List Session)
+responseEntries s a = walk 3 0 s (a .to)
+
+module _ (areas : Said Areas) (entries : Areas → Said (List Session)) where
+  abbrev divided : Said Division
+  divided = then areas λ a. then (entries a) λ es. gives (record { areas = a; entries = es })
+
+  pub areas-refused : {why : List ℕ} → refuses why ≡ areas → refuses why ≡ divided
+  areas-refused e = stops areas _ e
+
+  module _ {a : Areas} (e : gives a ≡ areas) where
+    pub walk-refused : {why : List ℕ} → refuses why ≡ entriesByValue (entries a) → refuses why ≡ divided
+    walk-refused refused = stops (entries a) _ (by (entries a) refused) ∙ goes-on areas _ e
+      where
+        by : {why : List ℕ} (w : Said (List Session)) → refuses why ≡ entriesByValue w → refuses why ≡ w
+        by (gives es) r = absurd (gives≢refuses (sym r))
+        by (refuses other) r = ap refuses (refuses-injective r)
+
+    pub walk-read : {es : Entries} → gives es ≡ entriesByValue (entries a)
+        → (ds : List Session) × (es ≡ byValue ds) × (gives (record { areas = a; entries = ds }) ≡ divided)
+    walk-read read =
+        let found = by (entries a) read in
+        (found .0, found .1, goes-on (entries a) _ (found .2) ∙ goes-on areas _ e)
+      where
+        by : {es : Entries} (w : Said (List Session)) → gives es ≡ entriesByValue w → (ds : List Session) × (es ≡ byValue ds) × (gives ds ≡ w)
+        by (gives ds) r = (ds, gives-injective r, refl)
+        by (refuses why) r = absurd (gives≢refuses r)
+
+-- what is given back by value of a division that was read
+module _ (s : List ℕ) (read : Said Division) {a : Areas} {ds : List Session}
+    (e : gives (record { areas = a; entries = ds }) ≡ read) {tag code : ℕ} {es : Entries}
+    (tag-is : tag ≡ tagOf s) (code-is : code ≡ codeOf s) (es-are : es ≡ byValue ds) where
+  pub command-by-value : gives (record {
+    tag = record { 0 = tag };
+    cc = record { 0 = code };
+    handles = span 10 (a .handles);
+    auth = span (a .from) (a .to);
+    parameters = span (a .to) (length s);
+    entries = es;
+  }) ≡ commandByValue s read
+  command-by-value =
+      (λ i. gives (record {
+        tag = record { 0 = tag-is i };
+        cc = record { 0 = code-is i };
+        handles = span 10 (a .handles);
+        auth = span (a .from) (a .to);
+        parameters = span (a .to) (length s);
+        entries = es-are i;
+      }))
+      ∙ goes-on read _ e
+
+  pub response-by-value : gives (record {
+    tag = record { 0 = tag };
+    rc = record { 0 = code };
+    handles = span 10 (a .handles);
+    parameters = span (a .from) (a .to);
+    auth = span (a .to) (length s);
+    entries = es;
+  }) ≡ responseByValue s read
+  response-by-value =
+      (λ i. gives (record {
+        tag = record { 0 = tag-is i };
+        rc = record { 0 = code-is i };
+        handles = span 10 (a .handles);
+        parameters = span (a .from) (a .to);
+        auth = span (a .to) (length s);
+        entries = es-are i;
+      }))
+      ∙ goes-on read _ e

@@ -1,0 +1,13 @@
+pub mod CommandLaws
+pub mod Divides
+pub mod Divisions
+pub mod EntryLaws
+pub mod FrameLaws
+pub mod Headers
+pub mod Laws
+pub mod ResponseLaws
+pub mod Single
+pub mod Standing
+pub mod WalkLaws
+pub mod Walks
+pub mod Worked

@@ -1,0 +1,365 @@
+-- A response to the command of a code passes exactly where it is the layout of well-formed parts, over any rows; the parts read
+-- are those laid out. An error response is a bare header, and a success response divides as the code's row says.
+-- Assumes nothing.
+use mathlib.Core.Path.{_≡_, refl, sym, _∙_, ap, subst}
+use mathlib.Core.Bool.{true, false, cond}
+use mathlib.Core.List.{List, []}
+use mathlib.Core.Logic.{_⊎_, inl, inr, _↔_}
+use Prim.Native.Nat.{ℕ, _+_, _-_, _*_, _≤_, _<_}
+use native.Mathlib.Nat.{le-refl}
+use native.Mathlib.Omega.{arith}
+use borrow.Author.Tests.{le-leb, leb-true, eqb-true, eq-eqb}
+use lib.Dec.{eqb, leb}
+use lib.ListN.{length, drop, length-append}
+use Rattle.base.specs.Bytes.{AreBytes, bytes}
+use Rattle.base.specs.Said.{gives, given}
+use Rattle.base.proofs.Bytes.{are-bytes-take, are-bytes-drop}
+use Rattle.base.proofs.Checks.{needs-gives, then-gives, cond-gives, gives-injective}
+use Rattle.base.proofs.Places.{at-by}
+use Rattle.rc.specs.Code.{readCode, readFmt0}
+use Rattle.rc.specs.Known.{isKnown, knownCodes}
+use Rattle.table.specs.Table.{rowFor}
+use Rattle.table.specs.declared.row.Row.{Row}
+use Rattle.frame.specs.declared.areas.Areas.{Areas}
+use Rattle.frame.specs.Areas.{handleArea, sizedArea}
+use Rattle.frame.specs.Command.{Division}
+use Rattle.frame.specs.Header.{tagOf, sizeOf, codeOf, plain, sessions, isOfTwo, readRc, frameWhole, readFrameTag}
+use Rattle.frame.specs.Layout.{
+  Frame,
+  WellFormed,
+  ErrorParts,
+  SuccessParts,
+  ResponseParts,
+  layoutEntries,
+  layoutBody,
+  layoutFrame,
+  layoutResponse,
+}
+use Rattle.frame.specs.Parts.{between, entriesIn, responseParts}
+use Rattle.frame.specs.Response.{judgeResponse, castResponse, errorAreas, successAreas, responseAreas, readResponse}
+use Rattle.frame.specs.Walk.{walk}
+use Rattle.frame.proofs.Divides.{exactly, one-division, equal}
+use Rattle.frame.proofs.FrameLaws.{
+  code-fits,
+  size-fits,
+  Framed,
+  frame-sound,
+  frame-complete,
+  length-frame,
+  whole-sound,
+  whole-complete,
+  tag-sound,
+  tag-complete,
+  tag-fits,
+  Holds,
+  handles-sound,
+  handles-complete,
+  sized-order,
+  plain-places,
+  frame-again,
+  sized-complete,
+}
+use Rattle.frame.proofs.Standing.{between-at, at-between, length-entries}
+use Rattle.frame.proofs.WalkLaws.{walk-sound, walk-complete, walk-end}
+
+-- ---- the two kinds
+
+-- the code of success reads
+success-reads : given (readCode 0) ≡ true
+unfolding readCode readFmt0 isKnown knownCodes
+success-reads = refl
+
+-- an error response is laid out as a bare header
+bare-layout : (f : Frame) → ErrorParts f → layoutResponse f ≡ layoutFrame plain (f .code) []
+unfolding layoutResponse
+bare-layout f e = rw (e .tag-plain, e .no-handles, e .no-entries, e .no-parameters) refl
+
+-- what is judged of success, and its areas
+record Succeeded (responses : ℕ) (s : List ℕ) (areas : Areas) : Type 0 where
+  room : 10 + 4 * responses ≤ length s
+  sized : sizedArea (eqb (tagOf s) sessions) (length s) s (10 + 4 * responses) ≡ gives areas
+
+success-taken : (responses : ℕ) (s : List ℕ) {areas : Areas} → 10 ≤ length s → successAreas responses s ≡ gives areas → Succeeded responses s areas
+unfolding successAreas
+success-taken responses s ten e =
+    let handled = then-gives (handleArea responses s) _ e in
+    let handles = handles-sound s responses ten (handled .1) in
+    record {
+      room = handles .1;
+      sized = ap (sizedArea (eqb (tagOf s) sessions) (length s) s) (sym (handles .0)) ∙ handled .2;
+    }
+
+success-passes : (responses : ℕ) (s : List ℕ) {areas : Areas} → Succeeded responses s areas → successAreas responses s ≡ gives areas
+unfolding successAreas
+success-passes responses s t = rw (handles-complete s responses (t .room)) (t .sized)
+
+-- and an error
+module _ (s : List ℕ) where
+  error-taken : {areas : Areas} → errorAreas s ≡ gives areas → (tagOf s ≡ plain) × (length s ≤ 10) × (record { handles = 10; from = 10; to = 10 } ≡ areas)
+  unfolding errorAreas
+  error-taken e =
+      let tagged = needs-gives (eqb (tagOf s) plain) _ _ e in
+      let bare = needs-gives (leb (length s) 10) _ _ (tagged .1) in
+      (eqb-true (tagOf s) plain (tagged .0), leb-true (length s) 10 (bare .0), gives-injective (bare .1))
+
+  error-passes : tagOf s ≡ plain → length s ≤ 10 → errorAreas s ≡ gives (record { handles = 10; from = 10; to = 10 })
+  unfolding errorAreas
+  error-passes q h = simp (eq-eqb (tagOf s) plain q, le-leb (length s) 10 h)
+
+-- ---- a response to the command of a code
+
+module _ (rows : List Row) (cc : ℕ) where
+  -- the steps of a reading that passed
+  record Steps (s : List ℕ) (d : Division) : Type 0 where
+    row : Row
+    has-row : rowFor rows cc ≡ gives row
+    ten : 10 ≤ length s
+    size-is : sizeOf s ≡ length s
+    tag-two : isOfTwo (tagOf s) ≡ true
+    code-reads : given (readCode (codeOf s)) ≡ true
+    judged : cond (eqb (codeOf s) 0) (successAreas (row .responses) s) (errorAreas s) ≡ gives (d .areas)
+    walked : walk 3 0 s (d .areas .to) ≡ gives (d .entries)
+
+  steps-taken : (s : List ℕ) (d : Division) → readResponse rows cc s ≡ gives d → Steps s d
+  unfolding readResponse responseAreas castResponse judgeResponse readRc
+  steps-taken s d e =
+      let read = then-gives (responseAreas rows cc s) _ e in
+      let areas : Areas = read .0 in
+      let walked = then-gives (walk 3 0 s (areas .to)) _ (read .2) in
+      let cast = then-gives (castResponse s) _ (read .1) in
+      let found = then-gives (rowFor rows cc) _ (cast .2) in
+      let whole = then-gives (frameWhole s) _ (cast .1) in
+      let tagged = then-gives (readFrameTag s) _ (whole .2) in
+      let header = needs-gives (leb 10 (length s)) _ _ (tagged .2) in
+      let coded = needs-gives (given (readCode (codeOf s))) _ _ (header .1) in
+      let code : codeOf s ≡ cast .0 = gives-injective (coded .1) in
+      let sized = whole-sound s (whole .1) in
+      subst (Steps s) (gives-injective (walked .2))
+      (record {
+        row = found .0;
+        has-row = found .1;
+        ten = sized .0;
+        size-is = sized .1;
+        tag-two = tag-sound s (tagged .1);
+        code-reads = coded .0;
+        judged = ap (λ (c : ℕ). cond (eqb c 0) (successAreas (found .0 .responses) s) (errorAreas s)) code ∙ found .2;
+        walked = walked .1;
+      })
+
+  steps-pass : (s : List ℕ) (d : Division) → Steps s d → readResponse rows cc s ≡ gives d
+  unfolding readResponse responseAreas castResponse judgeResponse readRc
+  steps-pass s d t =
+      rw (whole-complete s (t .ten) (t .size-is), tag-complete s (t .ten) (t .tag-two), le-leb 10 (length s) (t .ten))
+      (rw (t .code-reads, t .has-row, t .judged, t .walked) refl)
+
+  -- ---- a response that passes is the layout of the parts read, and they are well formed
+
+  module _ (s : List ℕ) (p : AreBytes s) (d : Division) (t : Steps s d) where
+    error-sound : eqb (codeOf s) 0 ≡ false → errorAreas s ≡ gives (d .areas) → ErrorParts (responseParts s d) × (layoutResponse (responseParts s d) ≡ s)
+    unfolding responseParts
+    error-sound q e =
+        let taken = error-taken s e in
+        let ten = t .ten in
+        let bare = taken .1 in
+        let to : d .areas .to ≡ 10 = ap (λ (a : Areas). a .to) (sym (taken .2)) in
+        let none : d .entries ≡ [] = gives-injective (sym (t .walked) ∙ walk-end 3 0 s (d .areas .to) (omega arith)) in
+        let parts : ErrorParts (responseParts s d) =
+        record {
+          tag-plain = taken .0;
+          code-fits = code-fits s p (t .ten);
+          code-reads = t .code-reads;
+          no-success = q;
+          no-handles = ap (λ (a : Areas). between 10 (a .handles) s) (sym (taken .2));
+          no-entries = ap (entriesIn s) none;
+          no-parameters = ap (λ (a : Areas). between (a .from) (a .to) s) (sym (taken .2));
+        } in (
+          parts,
+          bare-layout (responseParts s d) parts
+              ∙ frame-sound p (record {
+                tag-is = taken .0;
+                code-is = refl;
+                size-is = t .size-is;
+                body-at = at-by [] (drop 10 s) ten refl;
+                body-long = omega arith;
+              }),
+        )
+
+    success-sound : codeOf s ≡ 0 → Succeeded (t .row .responses) s (d .areas)
+        → SuccessParts (t .row .responses) (responseParts s d) × (layoutResponse (responseParts s d) ≡ s)
+    unfolding responseParts layoutResponse
+    success-sound q taken =
+        let h : ℕ = 10 + 4 * t .row .responses in
+        let from : ℕ = d .areas .from in
+        let to : ℕ = d .areas .to in
+        let order = sized-order (eqb (tagOf s) sessions) (length s) h s (taken .room) (le-refl (length s)) (taken .sized) in
+        let walked = walk-sound 3 0 s to p (order .3) (t .walked) in
+        let handles = at-between s 10 (d .areas .handles) (omega arith) (omega arith) in
+        let sized = at-between s from to (order .2) (order .3) in
+        let none : eqb (tagOf s) sessions ≡ false → entriesIn s (d .entries) ≡ [] =
+        λ plainly.
+        let ends = plain-places (length s) h s (rw plainly at (taken .sized)) in
+        ap (entriesIn s) (gives-injective (sym (t .walked) ∙ walk-end 3 0 s to (omega arith))) in
+        let again : layoutResponse (responseParts s d) ≡ s =
+        frame-again (length s) h s p (t .size-is) (taken .sized) (record {
+          handles-at = handles .0;
+          handles-end = handles .1;
+          sized-at = sized .0;
+          sized-end = sized .1;
+          rest-at = walked .0;
+          rest-end = walked .1;
+        }) in (
+          record {
+            success = q;
+            well-formed = record {
+              tag-of-two = t .tag-two;
+              code-fits = code-fits s p (t .ten);
+              handle-bytes = are-bytes-take (d .areas .handles - 10) (drop 10 s) (are-bytes-drop 10 s p);
+              handle-count = omega (arith, handles .1);
+              whole-entries = walked .2;
+              three-entries = rw length-entries (walked .3);
+              plain-entries = none;
+              parameter-bytes = are-bytes-take (to - from) (drop from s) (are-bytes-drop from s p);
+            };
+            size-fits = rw again (size-fits s p (t .ten) (t .size-is));
+          },
+          again,
+        )
+
+    either-sound : ((eqb (codeOf s) 0 ≡ true) × (successAreas (t .row .responses) s ≡ gives (d .areas)))
+        ⊎ ((eqb (codeOf s) 0 ≡ false) × (errorAreas s ≡ gives (d .areas)))
+        → ResponseParts rows cc (responseParts s d) × (layoutResponse (responseParts s d) ≡ s)
+    either-sound (inl e) =
+        let parts = success-sound (eqb-true (codeOf s) 0 (e .0)) (success-taken (t .row .responses) s (t .ten) (e .1)) in
+        (record { row = t .row; has-row = t .has-row; either-kind = inl (parts .0) }, parts .1)
+    either-sound (inr e) =
+        let parts = error-sound (e .0) (e .1) in
+        (record { row = t .row; has-row = t .has-row; either-kind = inr (parts .0) }, parts .1)
+
+  pub response-sound : (s : List ℕ) → AreBytes s → (d : Division) → readResponse rows cc s ≡ gives d
+      → ResponseParts rows cc (responseParts s d) × (layoutResponse (responseParts s d) ≡ s)
+  response-sound s p d e =
+      let t = steps-taken s d e in
+      either-sound s p d t (cond-gives (eqb (codeOf s) 0) (successAreas (t .row .responses) s) (errorAreas s) (t .judged))
+
+  -- ---- the layout of well-formed parts passes, and they are the parts read
+
+  module _ (f : Frame) (row : Row) (found : rowFor rows cc ≡ gives row) (s : List ℕ) where
+    module _ (success : f .code ≡ 0) (w : WellFormed 0 (row .responses) f)
+        (framed : Framed s (f .tag) (f .code) (layoutBody (f .tag) (f .handles) (f .parameters) (layoutEntries 0 (f .entries)))) where
+      -- from where the parts stand to the division
+      with-areas : (areas : Areas) → Holds s areas (f .handles) (f .parameters) (layoutEntries 0 (f .entries))
+          → sizedArea (eqb (f .tag) sessions) (length s) s (10 + 4 * row .responses) ≡ gives areas
+          → (d : Division) × (readResponse rows cc s ≡ gives d) × (responseParts s d ≡ f)
+      unfolding responseParts
+      with-areas areas held sized =
+          let tag : tagOf s ≡ f .tag = framed .tag-is in
+          let code : codeOf s ≡ f .code = framed .code-is in
+          let walked = walk-complete 3 0 s (areas .to) (f .entries) (w .whole-entries) (w .three-entries) (held .rest-at) (held .rest-end) in
+          let d : Division = record { areas = areas; entries = walked .0 } in (
+            d,
+            steps-pass s d (record {
+              row = row;
+              has-row = found;
+              ten = omega arith;
+              size-is = framed .size-is;
+              tag-two = rw tag (w .tag-of-two);
+              code-reads = rw (code, success) success-reads;
+              judged = rw (code, success) (success-passes (row .responses) s (record { room = omega arith; sized = rw tag sized }));
+              walked = walked .1;
+            }),
+            (λ i. record {
+              tag = tag i;
+              code = code i;
+              handles = between-at (areas .handles) (held .handles-at) (held .handles-end) i;
+              entries = walked .2 i;
+              parameters = between-at (areas .to) (held .sized-at) (held .sized-end) i;
+            }),
+          )
+
+      -- under the plain tag the parameters end where the frame does
+      plain-end : eqb (f .tag) sessions ≡ false → 10 + 4 * row .responses + length (f .parameters) ≡ length s
+      plain-end q =
+          let size : List ℕ = cond (eqb (f .tag) sessions) (bytes 4 (length (f .parameters))) [] in
+          let entries : List ℕ = layoutEntries 0 (f .entries) in
+          let all : 10 + (length (f .handles) + (length size + (length (f .parameters) + length entries))) ≡ length s = simp length-append at (framed .body-long) in
+          let no-size : length size ≡ 0 = rw q refl in
+          let no-entries : length entries ≡ 0 = rw (w .plain-entries q) refl in
+          omega arith
+
+      success-complete : length s < 4294967296 → (d : Division) × (readResponse rows cc s ≡ gives d) × (responseParts s d ≡ f)
+      success-complete small =
+          let entries : List ℕ = layoutEntries 0 (f .entries) in
+          let count : 10 + length (f .handles) ≡ 10 + 4 * row .responses = ap (λ (n : ℕ). 10 + n) (w .handle-count) in
+          let sized =
+          sized-complete (eqb (f .tag) sessions) (length s) (10 + 4 * row .responses) s (f .handles) (f .parameters) entries
+          small count plain-end (framed .body-at) (framed .body-long) in
+          with-areas (sized .0) (sized .2) (sized .1)
+
+    error-complete : ErrorParts f → Framed s plain (f .code) [] → (d : Division) × (readResponse rows cc s ≡ gives d) × (responseParts s d ≡ f)
+    unfolding responseParts
+    error-complete e framed =
+        let tag : tagOf s ≡ plain = framed .tag-is in
+        let code : codeOf s ≡ f .code = framed .code-is in
+        let d : Division = record { areas = record { handles = 10; from = 10; to = 10 }; entries = [] } in (
+          d,
+          steps-pass s d (record {
+            row = row;
+            has-row = found;
+            ten = omega arith;
+            size-is = framed .size-is;
+            tag-two = rw tag refl;
+            code-reads = rw code (e .code-reads);
+            judged = rw (code, e .no-success) (error-passes s tag (omega arith));
+            walked = walk-end 3 0 s 10 (omega arith);
+          }),
+          (λ i. record {
+            tag = (tag ∙ sym (e .tag-plain)) i;
+            code = code i;
+            handles = sym (e .no-handles) i;
+            entries = sym (e .no-entries) i;
+            parameters = sym (e .no-parameters) i;
+          }),
+        )
+
+  success-laid : (f : Frame) (row : Row) → rowFor rows cc ≡ gives row → SuccessParts (row .responses) f
+      → (d : Division) × (readResponse rows cc (layoutResponse f) ≡ gives d) × (responseParts (layoutResponse f) d ≡ f)
+  unfolding layoutResponse
+  success-laid f row found e =
+      let w = e .well-formed in
+      let body : List ℕ = layoutBody (f .tag) (f .handles) (f .parameters) (layoutEntries 0 (f .entries)) in
+      let s : List ℕ = layoutFrame (f .tag) (f .code) body in
+      let small : length s < 4294967296 = e .size-fits in
+      let long : length s ≡ 10 + length body = length-frame (f .tag) (f .code) body in
+      let framed = frame-complete (f .tag) (f .code) body (tag-fits (f .tag) (w .tag-of-two)) (w .code-fits) (omega arith) in
+      success-complete f row found s (e .success) w framed small
+
+  error-laid : (f : Frame) (row : Row) → rowFor rows cc ≡ gives row → ErrorParts f
+      → (d : Division) × (readResponse rows cc (layoutResponse f) ≡ gives d) × (responseParts (layoutResponse f) d ≡ f)
+  error-laid f row found e =
+      let framed = frame-complete plain (f .code) [] (omega arith) (e .code-fits) (omega arith) in
+      rw (bare-layout f e) (error-complete f row found (layoutFrame plain (f .code) []) e framed)
+
+  pub response-complete : (f : Frame) → ResponseParts rows cc f
+      → (d : Division) × (readResponse rows cc (layoutResponse f) ≡ gives d) × (responseParts (layoutResponse f) d ≡ f)
+  response-complete f c = by (c .either-kind)
+    where
+      by : SuccessParts (c .row .responses) f ⊎ ErrorParts f
+          → (d : Division) × (readResponse rows cc (layoutResponse f) ≡ gives d) × (responseParts (layoutResponse f) d ≡ f)
+      by (inl e) = success-laid f (c .row) (c .has-row) e
+      by (inr e) = error-laid f (c .row) (c .has-row) e
+
+  -- ---- and so
+
+  -- exactly the layouts of well-formed parts pass
+  pub response-exactly : (s : List ℕ) → AreBytes s
+      → ((d : Division) × (readResponse rows cc s ≡ gives d)) ↔ ((f : Frame) × ResponseParts rows cc f × (layoutResponse f ≡ s))
+  response-exactly = exactly (readResponse rows cc) responseParts layoutResponse (ResponseParts rows cc) response-sound response-complete
+
+  -- no response divides two ways
+  pub response-one-division : (f g : Frame) → ResponseParts rows cc f → ResponseParts rows cc g → layoutResponse f ≡ layoutResponse g → f ≡ g
+  response-one-division = one-division (readResponse rows cc) responseParts layoutResponse (ResponseParts rows cc) response-sound response-complete
+
+  -- two responses that pass have equal parts exactly where they have equal bytes
+  pub response-equal : (s t : List ℕ) → AreBytes s → AreBytes t → (d e : Division)
+      → readResponse rows cc s ≡ gives d → readResponse rows cc t ≡ gives e → (responseParts s d ≡ responseParts t e) ↔ (s ≡ t)
+  response-equal = equal (readResponse rows cc) responseParts layoutResponse (ResponseParts rows cc) response-sound response-complete

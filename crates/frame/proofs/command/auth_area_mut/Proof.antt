@@ -1,0 +1,22 @@
+-- `frame::command::auth_area_mut` meets its contract: the part is that of the range read.
+-- Assumes nothing.
+use mathlib.Core.Path.{ap, _∙_}
+use denote.Ref.{now}
+use Rattle.base.specs.Answer.{Part}
+use Rattle.base.specs.Said.{Said}
+use Rattle.frame.specs.Answer.{partIn}
+use borrow.Author.Needs.{needs}
+use Rattle.frame.proofs.command.auth_area_mut.Statement.{statement}
+use Rattle.frame.proofs.command.auth_area_mut.Tie as tie
+
+auth-area-range-requires : tie.Need-auth-area-range-requires
+auth-area-range-requires c κs = search needs
+
+part-mut-requires : tie.Need-part-mut-requires
+part-mut-requires c κs = search needs
+
+returns : tie.Need-returns
+returns c = c .part-mut .ensures ∙ ap (λ (range : Said Part). partIn range (now (c .before .before .before .before .args .s))) (c .before .auth-area-range .ensures)
+
+pub auth-area-mut-spec : {M : Type 1} → statement M
+auth-area-mut-spec = tie.close (tie.spec auth-area-range-requires part-mut-requires returns)

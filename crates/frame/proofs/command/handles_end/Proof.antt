@@ -1,0 +1,108 @@
+-- `frame::command::handles_end` meets its contract: the row is looked for first: a code that has one is known.
+-- Assumes nothing.
+use mathlib.Core.Path.{ap, sym, _∙_}
+use native.Mathlib.Omega.{arith}
+use denote.Ref.{now}
+use Rattle.base.specs.Said.{refuses}
+use Rattle.frame.specs.Header.{readCc}
+use Rattle.frame.specs.Command.{commandHandles}
+use Rattle.base.specs.Answer.{saidCount}
+use Rattle.table.specs.Dispatch.{dispatch, commandCodes}
+use Rattle.table.specs.Table.{rowFor, saidFound}
+use Rattle.table.proofs.Table.{row-known}
+use Rattle.base.proofs.Answers.{learnt}
+use Rattle.base.proofs.Checks.{goes-on, stops}
+use Rattle.frame.proofs.Headers.{short-header, code-bytes, cc-read, cc-refused}
+use borrow.Author.Needs.{needs}
+use Rattle.frame.proofs.command.handles_end.Statement.{statement}
+use Rattle.frame.proofs.command.handles_end.Tie as tie
+
+short-requires : tie.Need-short-requires
+short-requires c κs = search needs
+
+returns : tie.Need-returns
+unfolding commandHandles readCc
+returns c = ap refuses (c .short .ensures) ∙ stops (readCc commandCodes (now (c .before .before .before .args .s))) _ (short-header (now (c .before .before .before .args .s)) _ (c .before .if1 .taken))
+
+shared-slice-read-be32 : tie.Need-shared-slice-read-be32
+shared-slice-read-be32 c = search needs
+
+shared-slice-read-be32-2 : tie.Need-shared-slice-read-be32-2
+shared-slice-read-be32-2 c = search needs
+
+shared-slice-read-be32-3 : tie.Need-shared-slice-read-be32-3
+shared-slice-read-be32-3 c = search needs
+
+shared-slice-read-be32-4 : tie.Need-shared-slice-read-be32-4
+shared-slice-read-be32-4 c = search needs
+
+be32-requires : tie.Need-be32-requires
+be32-requires c κs = search needs
+
+find-requires : tie.Need-find-requires
+find-requires c κs = search needs
+
+enum-known-row : tie.Need-enum-known-row
+enum-known-row c = search needs
+
+handle-area-requires : tie.Need-handle-area-requires
+handle-area-requires c κs = search needs
+
+enum-known-e : tie.Need-enum-known-e
+enum-known-e c = search needs
+
+known-requires : tie.Need-known-requires
+known-requires c κs = search needs
+
+refused-requires : tie.Need-refused-requires
+refused-requires c κs = search needs
+
+returns-2 : tie.Need-returns-2
+unfolding commandHandles
+returns-2 c =
+    let s = now (c .before .before .before .before .before .before .before .before .before .before .before .before .args .s) in
+    let ten = c .before .before .before .before .before .before .before .before .before .before .if1 .left in
+    let is = c .before .before .before .before .before .be32 .ensures ∙ code-bytes s ten in
+    let found = learnt saidFound (c .before .before .row .given .1) (c .before .before .before .before .find .ensures) in
+    c .handle-area .ensures
+    ∙ goes-on (rowFor dispatch _) _ found
+    ∙ goes-on (readCc commandCodes s) _ (cc-read s _ commandCodes is ten (row-known _ (sym found)))
+
+returns-3 : tie.Need-returns-3
+unfolding commandHandles
+returns-3 c =
+    let s = now (c .before .before .before .before .before .before .before .before .before .before .before .before .before .args .s) in
+    let ten = c .before .before .before .before .before .before .before .before .before .before .before .if1 .left in
+    let is = c .before .before .before .before .before .before .be32 .ensures ∙ code-bytes s ten in
+    stops (rowFor dispatch _) _ (learnt saidFound (c .before .before .before .e .given .1) (c .before .before .before .before .before .find .ensures))
+    ∙ goes-on (readCc commandCodes s) _ (cc-read s _ commandCodes is ten (sym (c .before .known .ensures) ∙ c .if2 .taken))
+
+returns-4 : tie.Need-returns-4
+unfolding commandHandles
+returns-4 c =
+    let s = now (c .before .before .before .before .before .before .before .before .before .before .before .before .before .before .args .s) in
+    let ten = c .before .before .before .before .before .before .before .before .before .before .before .before .if1 .left in
+    let is = c .before .before .before .before .before .before .before .be32 .ensures ∙ code-bytes s ten in
+    ap refuses (c .refused .ensures)
+    ∙ stops (readCc commandCodes s) _ (cc-refused s _ commandCodes is ten (sym (c .before .before .known .ensures) ∙ c .before .if2 .left))
+
+pub handles-end-spec : {M : Type 1} → statement M
+handles-end-spec =
+    tie.close
+    (tie.spec
+    short-requires
+    returns
+    shared-slice-read-be32
+    shared-slice-read-be32-2
+    shared-slice-read-be32-3
+    shared-slice-read-be32-4
+    be32-requires
+    find-requires
+    enum-known-row
+    handle-area-requires
+    enum-known-e
+    known-requires
+    refused-requires
+    returns-2
+    returns-3
+    returns-4)

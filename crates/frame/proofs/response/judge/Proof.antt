@@ -1,0 +1,36 @@
+-- `frame::response::judge` meets its contract: it goes by what `frame_tag` said.
+-- Assumes nothing.
+use mathlib.Core.Path.{_∙_}
+use denote.Ref.{now}
+use Rattle.frame.specs.Header.{readFrameTag}
+use Rattle.frame.specs.Response.{judgeResponse}
+use Rattle.base.specs.Answer.{saidNumber16}
+use Rattle.base.proofs.Answers.{learnt}
+use Rattle.base.proofs.Checks.{goes-on, stops}
+use borrow.Author.Needs.{needs}
+use Rattle.frame.proofs.response.judge.Statement.{statement}
+use Rattle.frame.proofs.response.judge.Tie as tie
+
+frame-tag-requires : tie.Need-frame-tag-requires
+frame-tag-requires c κs = search needs
+
+enum-known-e : tie.Need-enum-known-e
+enum-known-e c = search needs
+
+enum-told : tie.Need-enum-told
+enum-told c = search needs
+
+rc-requires : tie.Need-rc-requires
+rc-requires c κs = search needs
+
+returns : tie.Need-returns
+unfolding judgeResponse
+returns c = stops (readFrameTag (now (c .before .before .before .before .before .args .s))) _ (learnt saidNumber16 (c .before .e .given .1) (c .before .before .before .frame-tag .ensures))
+
+returns-2 : tie.Need-returns-2
+unfolding judgeResponse
+returns-2 c = c .rc .ensures ∙ goes-on (readFrameTag (now (c .before .before .before .before .before .args .s))) _ (learnt saidNumber16 (c .before .enum-told .given .1) (c .before .before .before .frame-tag .ensures))
+
+pub judge-spec : {M : Type 1} → statement M
+judge-spec =
+    tie.close (tie.spec frame-tag-requires enum-known-e enum-told rc-requires returns returns-2)

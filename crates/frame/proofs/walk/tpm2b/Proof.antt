@@ -1,0 +1,55 @@
+-- `frame::walk::tpm2b` meets its contract: each return is the case of the definition to which its tests lead.
+-- Assumes nothing.
+use mathlib.Core.Path.{ap, _∙_}
+use native.Mathlib.Omega.{arith}
+use denote.Ref.{now}
+use Rattle.base.specs.Answer.{saidNumber16}
+use Rattle.base.proofs.Answers.{learnt}
+use Rattle.frame.proofs.Walks.{field-there, tpm2b-refused, tpm2b-short, tpm2b-read}
+use borrow.Author.Needs.{needs}
+use Rattle.frame.proofs.walk.tpm2b.Statement.{statement}
+use Rattle.frame.proofs.walk.tpm2b.Tie as tie
+
+read-u16-requires : tie.Need-read-u16-requires
+read-u16-requires c κs = search needs
+
+enum-known-read : tie.Need-enum-known-read
+enum-known-read c = search needs
+
+enum-told : tie.Need-enum-told
+enum-told c = search needs
+
+returns : tie.Need-returns
+returns c = ap saidNumber16 (c .enum-told .given .1) ∙ tpm2b-refused _ _ (learnt saidNumber16 (c .enum-told .given .1) (c .before .before .read-u16 .ensures))
+
+cast-needed : tie.Need-cast-needed
+cast-needed c = search needs
+
+add-needed : tie.Need-add-needed
+add-needed c = search needs
+
+sub-left : tie.Need-sub-left
+sub-left c =
+    let a = c .before .before .before .before .before .args in
+    let there = field-there 2 (a .place) (now (a .s)) (omega arith) (learnt saidNumber16 (c .before .read .given .1) (c .before .before .before .read-u16 .ensures)) in
+    omega arith
+
+returns-2 : tie.Need-returns-2
+returns-2 c = tpm2b-short _ _ (learnt saidNumber16 (c .before .before .read .given .1) (c .before .before .before .before .read-u16 .ensures)) (c .if1 .taken)
+
+returns-3 : tie.Need-returns-3
+returns-3 c = tpm2b-read _ _ (learnt saidNumber16 (c .before .before .read .given .1) (c .before .before .before .before .read-u16 .ensures)) (c .if1 .left)
+
+pub tpm2b-spec : {M : Type 1} → statement M
+tpm2b-spec =
+    tie.close
+    (tie.spec
+    read-u16-requires
+    enum-known-read
+    enum-told
+    returns
+    cast-needed
+    add-needed
+    sub-left
+    returns-2
+    returns-3)

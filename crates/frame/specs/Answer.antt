@@ -1,0 +1,104 @@
+-- The answers of the frame's calls, in the paper's terms; and what the calls give back of a division, by value.
+-- Assumes nothing: these are definitions.
+use Prim.Native.Nat.{ℕ, _-_}
+use mathlib.Core.Bool.{Bool, true, false, _&&_, cond}
+use mathlib.Core.List.{List, []}
+use lib.Dec.{leb}
+use lib.ListN.{length, take, drop}
+use Rattle.base.specs.Answer.{Part}
+use Rattle.base.specs.Error.{numbered}
+use Rattle.base.specs.Said.{Said, gives, refuses, then}
+use Rattle.frame.specs.declared.areas.Areas.{Areas}
+use Rattle.frame.specs.declared.areas.Divided.{Divided}
+use Rattle.frame.specs.declared.areas.Divided.the-variants as divided
+use Rattle.frame.specs.declared.session.Session.{Session}
+use Rattle.frame.specs.declared.session.Entries.{Entries}
+use Rattle.frame.specs.declared.walk.Entered.{Entered}
+use Rattle.frame.specs.declared.walk.Entered.the-variants as entered
+use Rattle.frame.specs.declared.walk.Walked.{Walked}
+use Rattle.frame.specs.declared.walk.Walked.the-variants as walked
+use Rattle.frame.specs.declared.part.Span.{Span}
+use Rattle.frame.specs.declared.command.Command.{Command}
+use Rattle.frame.specs.declared.command.CommandRead.{CommandRead}
+use Rattle.frame.specs.declared.command.CommandRead.the-variants as command
+use Rattle.frame.specs.declared.response.Response.{Response}
+use Rattle.frame.specs.declared.response.ResponseRead.{ResponseRead}
+use Rattle.frame.specs.declared.response.ResponseRead.the-variants as response
+use Rattle.frame.specs.Command.{Division}
+use Rattle.frame.specs.Header.{tagOf, codeOf}
+use Rattle.frame.specs.Walk.{byValue}
+
+abbrev pub saidAreas : Divided → Said Areas
+saidAreas (divided.Is a) = gives a
+saidAreas (divided.Refused e) = refuses (numbered e)
+
+abbrev pub saidEntered : Entered → Said Session
+saidEntered (entered.Is e) = gives e
+saidEntered (entered.Refused e) = refuses (numbered e)
+
+abbrev pub saidWalked : Walked → Said Entries
+saidWalked (walked.Is es) = gives es
+saidWalked (walked.Refused e) = refuses (numbered e)
+
+abbrev pub saidCommand : CommandRead → Said Command
+saidCommand (command.Is c) = gives c
+saidCommand (command.Refused e) = refuses (numbered e)
+
+abbrev pub saidResponse : ResponseRead → Said Response
+saidResponse (response.Is r) = gives r
+saidResponse (response.Refused e) = refuses (numbered e)
+
+-- the entries that a walk gives, by value
+abbrev pub entriesByValue : Said (List Session) → Said Entries
+entriesByValue walked = then walked λ es. gives (byValue es)
+
+-- the width of the handle before an entry: 4 bytes in a command, none in a response
+abbrev pub handleWidth : Bool → ℕ
+handleWidth true = 4
+handleWidth false = 0
+
+-- a command and a response by value: the sized bytes are the entries of the one and the parameters of the other
+abbrev pub span : ℕ → ℕ → Span
+span from to = record { from = from; to = to }
+
+abbrev pub commandByValue : List ℕ → Said Division → Said Command
+commandByValue s division = then division λ d. gives (record {
+  tag = record { 0 = tagOf s };
+  cc = record { 0 = codeOf s };
+  handles = span 10 (d .areas .handles);
+  auth = span (d .areas .from) (d .areas .to);
+  parameters = span (d .areas .to) (length s);
+  entries = byValue (d .entries);
+})
+
+abbrev pub responseByValue : List ℕ → Said Division → Said Response
+responseByValue s division = then division λ d. gives (record {
+  tag = record { 0 = tagOf s };
+  rc = record { 0 = codeOf s };
+  handles = span 10 (d .areas .handles);
+  parameters = span (d .areas .from) (d .areas .to);
+  auth = span (d .areas .to) (length s);
+  entries = byValue (d .entries);
+})
+
+-- ---- parts of lent bytes
+
+-- what stands between two places of the bytes; nothing where there is no such part, or where its range is refused
+abbrev pub fits : Part → List ℕ → Bool
+fits p s = leb (p .from) (p .to) && leb (p .to) (length s)
+
+abbrev pub partIn : Said Part → List ℕ → List ℕ
+partIn (gives p) s = cond (fits p s) (take (p .to - p .from) (drop (p .from) s)) []
+partIn (refuses why) s = []
+
+-- what stands behind it
+abbrev pub tailIn : Said Part → List ℕ → List ℕ
+tailIn (gives p) s = cond (fits p s) (drop (p .to) s) []
+tailIn (refuses why) s = []
+
+-- all bytes, or as many as a read took, as a part from their start
+abbrev pub whole : {A : Type 0} → List ℕ → Said A → Said Part
+whole s read = then read λ a. gives (record { from = 0; to = length s })
+
+abbrev pub upTo : Said ℕ → Said Part
+upTo read = then read λ n. gives (record { from = 0; to = n })

@@ -1,0 +1,65 @@
+-- Reading a command (document 01, "Order of checks"), over any rows and any list of known codes.
+-- Assumes nothing: these are definitions.
+use Prim.Native.Nat.{ℕ}
+use mathlib.Core.List.{List, [], _∷_}
+use lib.Dec.{eqb}
+use lib.ListN.{length, take}
+use Rattle.base.specs.Answer.{Part}
+use Rattle.base.specs.Members.{isIn}
+use Rattle.base.specs.Said.{Said, gives, needs, then}
+use Rattle.table.specs.Table.{rowFor}
+use Rattle.table.specs.Tags.{tags}
+use Rattle.table.specs.declared.row.Row.{Row}
+use Rattle.frame.specs.declared.areas.Areas.{Areas}
+use Rattle.frame.specs.declared.session.Session.{Session}
+use Rattle.frame.specs.Areas.{handleArea, sizedArea}
+use Rattle.frame.specs.Header.{tagOf, sessions, readCc, framePrefix, frameWhole, readFrameTag}
+use Rattle.frame.specs.Walk.{walk}
+
+-- a frame taken apart: its areas and its entries
+pub record Division : Type 0 where
+  pub areas : Areas
+  pub entries : List Session
+
+module _ (rows : List Row) (known : List ℕ) where
+  -- where the handles end, of bytes that no cast has seen
+  unfoldable pub commandHandles : List ℕ → Said ℕ
+  commandHandles s =
+      then (readCc known s) λ code.
+      then (rowFor rows code) λ row.
+      handleArea (row .handles) s
+
+  -- the areas, of bytes that no cast has seen: any known tag but the sessions tag counts as plain
+  unfoldable pub commandAreas : List ℕ → Said Areas
+  commandAreas s =
+      then (commandHandles s) λ handles.
+      needs (isIn (tagOf s) tags) (3 ∷ 0 ∷ tagOf s ∷ [])
+      (sizedArea (eqb (tagOf s) sessions) handles s handles)
+
+  -- what is judged of a command behind its size
+  unfoldable pub judgeCommand : List ℕ → Said Areas
+  judgeCommand s = then (readFrameTag s) λ tag. commandAreas s
+
+  unfoldable pub castCommand : List ℕ → Said Areas
+  castCommand s = then (frameWhole s) λ n. judgeCommand s
+
+  -- the bytes of the command at the start
+  unfoldable pub castCommandPrefix : List ℕ → Said ℕ
+  castCommandPrefix s = then (framePrefix s) λ n. then (judgeCommand (take n s)) λ areas. gives n
+
+  -- the full check, which walks the entries
+  unfoldable pub readCommand : List ℕ → Said Division
+  readCommand s =
+      then (castCommand s) λ areas.
+      then (walk 3 4 (take (areas .to) s) (areas .from)) λ entries.
+      gives (record { areas = areas; entries = entries })
+
+  -- the three areas as parts of the bytes, each with its own checks and no more
+  unfoldable pub handlesRange : List ℕ → Said Part
+  handlesRange s = then (commandHandles s) λ handles. gives (record { from = 10; to = handles })
+
+  unfoldable pub authRange : List ℕ → Said Part
+  authRange s = then (commandAreas s) λ areas. gives (record { from = areas .from; to = areas .to })
+
+  unfoldable pub parametersRange : List ℕ → Said Part
+  parametersRange s = then (commandAreas s) λ areas. gives (record { from = areas .to; to = length s })

@@ -1,0 +1,328 @@
+// Commands. A range read says what is refused and why; the part read of the same name is then empty.
+ghost use mathlib.Core.Path.{_≡_};
+ghost use Rattle.base.specs.Answer.{saidCount, saidNumber32, saidOutcome, saidRange};
+ghost use Rattle.base.specs.Said.{after, done};
+ghost use Rattle.table.specs.Dispatch.{commandCodes, dispatch};
+ghost use Rattle.frame.specs.Answer.{commandByValue, partIn, saidAreas, saidCommand, tailIn, upTo, whole};
+ghost use Rattle.frame.specs.Command.{authRange, castCommand, castCommandPrefix, commandAreas, commandHandles, handlesRange, judgeCommand, parametersRange, readCommand};
+ghost use Rattle.frame.specs.Header.{readCc, setCc};
+use crate::areas::Divided;
+use crate::areas::handle_area;
+use crate::areas::sized_area;
+use crate::header::frame_prefix;
+use crate::header::frame_tag;
+use crate::header::frame_whole;
+use crate::header::short;
+use crate::part::Span;
+use crate::part::part;
+use crate::part::part_mut;
+use crate::part::tail;
+use crate::part::tail_mut;
+use crate::session::Entries;
+use crate::walk::Walked;
+use crate::walk::walk;
+use base::answer::Count;
+use base::answer::Number16;
+use base::answer::Number32;
+use base::answer::Outcome;
+use base::answer::Range;
+use base::code::TpmCc;
+use base::code::TpmSt;
+use base::error::TpmError;
+use base::field::be16;
+use base::field::be32;
+use base::field::write_u32;
+use table::dispatch::find;
+use table::dispatch::known;
+use table::row::Found;
+use table::tag;
+
+// A passing command by value: its areas by where they stand, its entries by their count and the first three.
+pub struct Command {
+    pub tag: TpmSt,
+    pub cc: TpmCc,
+    pub handles: Span,
+    pub auth: Span,
+    pub parameters: Span,
+    pub entries: Entries,
+}
+
+pub enum CommandRead {
+    Is(Command),
+    Refused(TpmError),
+}
+
+// ---- the code
+
+// The command code, one that TpmCc has.
+pub fn cc(s: &[u8]) -> Number32
+    ensures { λ r. ⌜ saidNumber32 r ≡ readCc commandCodes (now (s .entry)) ⌝ }
+{
+    if s.len() < 10 {
+        return Number32::Refused(short(s.len()));
+    }
+    let cc = TpmCc(be32(s[6], s[7], s[8], s[9]));
+    if known(cc) {
+        Number32::Is(cc.0)
+    } else {
+        Number32::Refused(cc.refused(6))
+    }
+}
+
+// Changes the command code to one that has a row, and nothing else.
+pub fn set_cc(s: &mut [u8], cc: TpmCc) -> Outcome
+    ensures answer { λ r. ⌜ saidOutcome r ≡ done (setCc dispatch (cc .0) (now (s .entry))) ⌝ }
+    ensures bytes { λ r. ⌜ now (s .exit) ≡ after (now (s .entry)) (setCc dispatch (cc .0) (now (s .entry))) ⌝ }
+{
+    if s.len() < 10 {
+        return Outcome::Refused(short(s.len()));
+    }
+    match find(cc) {
+        Found::Refused(e) => Outcome::Refused(e),
+        Found::Is(_) => write_u32(s, 6, cc.0),
+    }
+}
+
+// ---- the areas
+
+// Where the handles end. A code with a row is known, so the row is looked for first.
+fn handles_end(s: &[u8]) -> Count
+    ensures { λ r. ⌜ saidCount r ≡ commandHandles dispatch commandCodes (now (s .entry)) ⌝ }
+{
+    if s.len() < 10 {
+        return Count::Refused(short(s.len()));
+    }
+    let cc = TpmCc(be32(s[6], s[7], s[8], s[9]));
+    match find(cc) {
+        Found::Is(row) => handle_area(row.handles, s),
+        Found::Refused(e) => {
+            if known(cc) {
+                Count::Refused(e)
+            } else {
+                Count::Refused(cc.refused(6))
+            }
+        }
+    }
+}
+
+fn areas(s: &[u8]) -> Divided
+    ensures { λ r. ⌜ saidAreas r ≡ commandAreas dispatch commandCodes (now (s .entry)) ⌝ }
+{
+    match handles_end(s) {
+        Count::Refused(e) => Divided::Refused(e),
+        Count::Is(handles) => {
+            let tag = TpmSt(be16(s[0], s[1]));
+            if tag::known(tag) {
+                sized_area(tag.0 == 0x8002, handles, s, handles)
+            } else {
+                Divided::Refused(tag.refused(0))
+            }
+        }
+    }
+}
+
+// What is judged of a command behind its size.
+fn judge(s: &[u8]) -> Divided
+    ensures { λ r. ⌜ saidAreas r ≡ judgeCommand dispatch commandCodes (now (s .entry)) ⌝ }
+{
+    match frame_tag(s) {
+        Number16::Refused(e) => Divided::Refused(e),
+        Number16::Is(_) => areas(s),
+    }
+}
+
+fn cast_areas(s: &[u8]) -> Divided
+    ensures { λ r. ⌜ saidAreas r ≡ castCommand dispatch commandCodes (now (s .entry)) ⌝ }
+{
+    match frame_whole(s) {
+        Count::Refused(e) => Divided::Refused(e),
+        Count::Is(_) => judge(s),
+    }
+}
+
+pub fn handles_range(s: &[u8]) -> Range
+    ensures { λ r. ⌜ saidRange r ≡ handlesRange dispatch commandCodes (now (s .entry)) ⌝ }
+{
+    match handles_end(s) {
+        Count::Refused(e) => Range::Refused(e),
+        Count::Is(to) => Range::Is { from: 10, to },
+    }
+}
+
+pub fn auth_area_range(s: &[u8]) -> Range
+    ensures { λ r. ⌜ saidRange r ≡ authRange dispatch commandCodes (now (s .entry)) ⌝ }
+{
+    match areas(s) {
+        Divided::Refused(e) => Range::Refused(e),
+        Divided::Is(a) => Range::Is {
+            from: a.from,
+            to: a.to,
+        },
+    }
+}
+
+pub fn parameters_range(s: &[u8]) -> Range
+    ensures { λ r. ⌜ saidRange r ≡ parametersRange dispatch commandCodes (now (s .entry)) ⌝ }
+{
+    match areas(s) {
+        Divided::Refused(e) => Range::Refused(e),
+        Divided::Is(a) => Range::Is {
+            from: a.to,
+            to: s.len(),
+        },
+    }
+}
+
+pub fn handles(s: &[u8]) -> &[u8]
+    ensures { λ r. ⌜ now r ≡ partIn (handlesRange dispatch commandCodes (now (s .entry))) (now (s .entry)) ⌝ }
+{
+    part(s, handles_range(s))
+}
+
+pub fn auth_area(s: &[u8]) -> &[u8]
+    ensures { λ r. ⌜ now r ≡ partIn (authRange dispatch commandCodes (now (s .entry))) (now (s .entry)) ⌝ }
+{
+    part(s, auth_area_range(s))
+}
+
+pub fn parameters(s: &[u8]) -> &[u8]
+    ensures { λ r. ⌜ now r ≡ partIn (parametersRange dispatch commandCodes (now (s .entry))) (now (s .entry)) ⌝ }
+{
+    part(s, parameters_range(s))
+}
+
+pub fn handles_mut(s: &mut [u8]) -> &mut [u8]
+    ensures { λ r. ⌜ now r ≡ partIn (handlesRange dispatch commandCodes (now (s .entry))) (now (s .entry)) ⌝ }
+{
+    let range = handles_range(s);
+    part_mut(s, range)
+}
+
+pub fn auth_area_mut(s: &mut [u8]) -> &mut [u8]
+    ensures { λ r. ⌜ now r ≡ partIn (authRange dispatch commandCodes (now (s .entry))) (now (s .entry)) ⌝ }
+{
+    let range = auth_area_range(s);
+    part_mut(s, range)
+}
+
+pub fn parameters_mut(s: &mut [u8]) -> &mut [u8]
+    ensures { λ r. ⌜ now r ≡ partIn (parametersRange dispatch commandCodes (now (s .entry))) (now (s .entry)) ⌝ }
+{
+    let range = parameters_range(s);
+    part_mut(s, range)
+}
+
+// ---- casts
+
+pub fn cast_range(s: &[u8]) -> Range
+    ensures { λ r. ⌜ saidRange r ≡ whole (now (s .entry)) (castCommand dispatch commandCodes (now (s .entry))) ⌝ }
+{
+    match cast_areas(s) {
+        Divided::Refused(e) => Range::Refused(e),
+        Divided::Is(_) => Range::Is {
+            from: 0,
+            to: s.len(),
+        },
+    }
+}
+
+pub fn cast(s: &[u8]) -> &[u8]
+    ensures { λ r. ⌜ now r ≡ partIn (whole (now (s .entry)) (castCommand dispatch commandCodes (now (s .entry)))) (now (s .entry)) ⌝ }
+{
+    part(s, cast_range(s))
+}
+
+pub fn cast_mut(s: &mut [u8]) -> &mut [u8]
+    ensures { λ r. ⌜ now r ≡ partIn (whole (now (s .entry)) (castCommand dispatch commandCodes (now (s .entry)))) (now (s .entry)) ⌝ }
+{
+    let range = cast_range(s);
+    part_mut(s, range)
+}
+
+// The command at the start of s.
+pub fn cast_prefix_range(s: &[u8]) -> Range
+    ensures { λ r. ⌜ saidRange r ≡ upTo (castCommandPrefix dispatch commandCodes (now (s .entry))) ⌝ }
+{
+    match frame_prefix(s) {
+        Count::Refused(e) => Range::Refused(e),
+        Count::Is(n) => match judge(&s[..n]) {
+            Divided::Refused(e) => Range::Refused(e),
+            Divided::Is(_) => Range::Is { from: 0, to: n },
+        },
+    }
+}
+
+pub fn cast_prefix(s: &[u8]) -> &[u8]
+    ensures { λ r. ⌜ now r ≡ partIn (upTo (castCommandPrefix dispatch commandCodes (now (s .entry)))) (now (s .entry)) ⌝ }
+{
+    part(s, cast_prefix_range(s))
+}
+
+pub fn cast_prefix_mut(s: &mut [u8]) -> &mut [u8]
+    ensures { λ r. ⌜ now r ≡ partIn (upTo (castCommandPrefix dispatch commandCodes (now (s .entry)))) (now (s .entry)) ⌝ }
+{
+    let range = cast_prefix_range(s);
+    part_mut(s, range)
+}
+
+// What stands behind the command at the start of s.
+pub fn cast_prefix_tail(s: &[u8]) -> &[u8]
+    ensures { λ r. ⌜ now r ≡ tailIn (upTo (castCommandPrefix dispatch commandCodes (now (s .entry)))) (now (s .entry)) ⌝ }
+{
+    tail(s, cast_prefix_range(s))
+}
+
+pub fn cast_prefix_tail_mut(s: &mut [u8]) -> &mut [u8]
+    ensures { λ r. ⌜ now r ≡ tailIn (upTo (castCommandPrefix dispatch commandCodes (now (s .entry)))) (now (s .entry)) ⌝ }
+{
+    let range = cast_prefix_range(s);
+    tail_mut(s, range)
+}
+
+// ---- the full check
+
+pub fn validate(s: &[u8]) -> Outcome
+    ensures { λ r. ⌜ saidOutcome r ≡ done (readCommand dispatch commandCodes (now (s .entry))) ⌝ }
+{
+    match cast_areas(s) {
+        Divided::Refused(e) => Outcome::Refused(e),
+        Divided::Is(a) => {
+            let from = a.from;
+            let to = a.to;
+            match walk(true, &s[..to], from) {
+                Walked::Refused(e) => Outcome::Refused(e),
+                Walked::Is(_) => Outcome::Done,
+            }
+        }
+    }
+}
+
+// All parts of a passing command.
+pub fn parts(s: &[u8]) -> CommandRead
+    ensures { λ r. ⌜ saidCommand r ≡ commandByValue (now (s .entry)) (readCommand dispatch commandCodes (now (s .entry))) ⌝ }
+{
+    match cast_areas(s) {
+        Divided::Refused(e) => CommandRead::Refused(e),
+        Divided::Is(a) => {
+            let from = a.from;
+            let to = a.to;
+            match walk(true, &s[..to], from) {
+                Walked::Refused(e) => CommandRead::Refused(e),
+                Walked::Is(entries) => CommandRead::Is(Command {
+                    tag: TpmSt(be16(s[0], s[1])),
+                    cc: TpmCc(be32(s[6], s[7], s[8], s[9])),
+                    handles: Span {
+                        from: 10,
+                        to: a.handles,
+                    },
+                    auth: Span { from, to },
+                    parameters: Span {
+                        from: to,
+                        to: s.len(),
+                    },
+                    entries,
+                }),
+            }
+        }
+    }
+}

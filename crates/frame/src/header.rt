@@ -1,0 +1,148 @@
+// The header of a frame: the fields that commands and responses share, and the envelope.
+ghost use mathlib.Core.Path.{_≡_};
+ghost use mathlib.Core.List.{[], _∷_};
+ghost use lib.Dec.{eqb};
+ghost use lib.ListN.{length};
+ghost use Rattle.base.specs.Answer.{saidCount, saidNumber16, saidNumber32, saidOutcome};
+ghost use Rattle.base.specs.Error.{numbered};
+ghost use Rattle.base.specs.Said.{after, done};
+ghost use Rattle.frame.specs.Header.{framePrefix, frameWhole, isOfTwo, readFrameTag, readSize, readTag, setTag};
+use base::answer::Count;
+use base::answer::Number16;
+use base::answer::Number32;
+use base::answer::Outcome;
+use base::code::TpmSt;
+use base::error::TpmError;
+use base::field::be16;
+use base::field::be32;
+use base::field::write_u16;
+use table::tag::known;
+
+// The refusal of bytes that have no whole header.
+pub(crate) fn short(len: usize) -> TpmError
+    ensures { λ r. ⌜ numbered r ≡ 1 ∷ 0 ∷ 10 ∷ len ∷ [] ⌝ }
+{
+    TpmError::UnexpectedEnd {
+        offset: 0,
+        needed: 10,
+        available: len,
+    }
+}
+
+// The tag, one that TpmSt has.
+pub fn tag(s: &[u8]) -> Number16
+    ensures { λ r. ⌜ saidNumber16 r ≡ readTag (now (s .entry)) ⌝ }
+{
+    if s.len() < 10 {
+        return Number16::Refused(short(s.len()));
+    }
+    let tag = TpmSt(be16(s[0], s[1]));
+    if known(tag) {
+        Number16::Is(tag.0)
+    } else {
+        Number16::Refused(tag.refused(0))
+    }
+}
+
+// The plain tag or the sessions tag.
+fn is_of_two(tag: u16) -> bool
+    ensures { λ r. ⌜ r ≡ isOfTwo tag ⌝ }
+{
+    tag == 0x8001 || tag == 0x8002
+}
+
+// The tag of a frame, one of the two.
+pub(crate) fn frame_tag(s: &[u8]) -> Number16
+    ensures { λ r. ⌜ saidNumber16 r ≡ readFrameTag (now (s .entry)) ⌝ }
+{
+    if s.len() < 10 {
+        return Number16::Refused(short(s.len()));
+    }
+    let tag = TpmSt(be16(s[0], s[1]));
+    if is_of_two(tag.0) {
+        Number16::Is(tag.0)
+    } else {
+        Number16::Refused(tag.refused(0))
+    }
+}
+
+// The size field, not judged.
+pub fn size(s: &[u8]) -> Number32
+    ensures { λ r. ⌜ saidNumber32 r ≡ readSize (now (s .entry)) ⌝ }
+{
+    if s.len() < 10 {
+        return Number32::Refused(short(s.len()));
+    }
+    Number32::Is(be32(s[2], s[3], s[4], s[5]))
+}
+
+// Changes the tag and nothing else.
+pub fn set_tag(s: &mut [u8], tag: TpmSt) -> Outcome
+    ensures answer { λ r. ⌜ saidOutcome r ≡ done (setTag (tag .0) (now (s .entry))) ⌝ }
+    ensures bytes { λ r. ⌜ now (s .exit) ≡ after (now (s .entry)) (setTag (tag .0) (now (s .entry))) ⌝ }
+{
+    if s.len() < 10 {
+        return Outcome::Refused(short(s.len()));
+    }
+    if known(tag) {
+        write_u16(s, 0, tag.0)
+    } else {
+        Outcome::Refused(tag.refused(0))
+    }
+}
+
+// The bytes of the frame at the start of s, by its size field.
+pub(crate) fn frame_prefix(s: &[u8]) -> Count
+    ensures { λ r. ⌜ saidCount r ≡ framePrefix (now (s .entry)) ⌝ }
+{
+    if s.len() < 10 {
+        return Count::Refused(short(s.len()));
+    }
+    let size = be32(s[2], s[3], s[4], s[5]) as usize;
+    if size < 10 {
+        return Count::Refused(TpmError::UnexpectedEnd {
+            offset: 2,
+            needed: 10,
+            available: size,
+        });
+    }
+    if s.len() < size {
+        return Count::Refused(TpmError::UnexpectedEnd {
+            offset: s.len(),
+            needed: size - s.len(),
+            available: 0,
+        });
+    }
+    Count::Is(size)
+}
+
+// The same of bytes that are one frame and nothing else.
+pub(crate) fn frame_whole(s: &[u8]) -> Count
+    ensures { λ r. ⌜ saidCount r ≡ frameWhole (now (s .entry)) ⌝ }
+{
+    let read = frame_prefix(s);
+    match read {
+        Count::Refused(e) => Count::Refused(e),
+        Count::Is(n) => {
+            if n < s.len() {
+                return Count::Refused(TpmError::TrailingData {
+                    offset: n,
+                    actual: s.len() - n,
+                });
+            }
+            Count::Is(n)
+        }
+    }
+}
+
+pub fn len(s: &[u8]) -> usize
+    ensures { λ r. ⌜ r ≡ length (now (s .entry)) ⌝ }
+{
+    s.len()
+}
+
+pub fn is_empty(s: &[u8]) -> bool
+    ensures { λ r. ⌜ r ≡ eqb (length (now (s .entry))) 0 ⌝ }
+{
+    s.len() == 0
+}

@@ -1,0 +1,298 @@
+// Responses. Whether a response passes depends on the command that it answers: its code is asked for.
+ghost use mathlib.Core.Path.{_≡_};
+ghost use Prim.Native.Nat.{_≤_};
+ghost use lib.ListN.{length};
+ghost use Rattle.base.specs.Answer.{saidNumber32, saidOutcome, saidRange};
+ghost use Rattle.base.specs.Said.{after, done};
+ghost use Rattle.table.specs.Dispatch.{dispatch};
+ghost use Rattle.frame.specs.Answer.{partIn, responseByValue, saidAreas, saidResponse, tailIn, upTo, whole};
+ghost use Rattle.frame.specs.Header.{readRc, setRc};
+ghost use Rattle.frame.specs.Response.{bodyRange, castResponse, castResponsePrefix, errorAreas, judgeResponse, readResponse, responseAreas, successAreas};
+use crate::areas::Areas;
+use crate::areas::Divided;
+use crate::areas::handle_area;
+use crate::areas::sized_area;
+use crate::header::frame_prefix;
+use crate::header::frame_tag;
+use crate::header::frame_whole;
+use crate::header::short;
+use crate::part::Span;
+use crate::part::part;
+use crate::part::part_mut;
+use crate::part::tail;
+use crate::part::tail_mut;
+use crate::session::Entries;
+use crate::walk::Walked;
+use crate::walk::walk;
+use base::answer::Count;
+use base::answer::Number16;
+use base::answer::Number32;
+use base::answer::Outcome;
+use base::answer::Range;
+use base::code::TpmCc;
+use base::code::TpmRc;
+use base::code::TpmSt;
+use base::error::TpmError;
+use base::field::be16;
+use base::field::be32;
+use base::field::write_u32;
+use rc::code::Answer;
+use rc::code::read;
+use table::dispatch::find;
+use table::row::Found;
+
+// A passing response by value: its areas by where they stand, its entries by their count and the first three.
+pub struct Response {
+    pub tag: TpmSt,
+    pub rc: TpmRc,
+    pub handles: Span,
+    pub parameters: Span,
+    pub auth: Span,
+    pub entries: Entries,
+}
+
+pub enum ResponseRead {
+    Is(Response),
+    Refused(TpmError),
+}
+
+// ---- the code
+
+// The response code, one that reads.
+pub fn rc(s: &[u8]) -> Number32
+    ensures { λ r. ⌜ saidNumber32 r ≡ readRc (now (s .entry)) ⌝ }
+{
+    if s.len() < 10 {
+        return Number32::Refused(short(s.len()));
+    }
+    let rc = TpmRc(be32(s[6], s[7], s[8], s[9]));
+    match read(rc) {
+        Answer::Code(_) => Number32::Is(rc.0),
+        Answer::Refused(_) => Number32::Refused(rc.refused(6)),
+    }
+}
+
+// Changes the response code to one that reads, and nothing else.
+pub fn set_rc(s: &mut [u8], rc: TpmRc) -> Outcome
+    ensures answer { λ r. ⌜ saidOutcome r ≡ done (setRc (rc .0) (now (s .entry))) ⌝ }
+    ensures bytes { λ r. ⌜ now (s .exit) ≡ after (now (s .entry)) (setRc (rc .0) (now (s .entry))) ⌝ }
+{
+    if s.len() < 10 {
+        return Outcome::Refused(short(s.len()));
+    }
+    match read(rc) {
+        Answer::Refused(_) => Outcome::Refused(rc.refused(0)),
+        Answer::Code(_) => write_u32(s, 6, rc.0),
+    }
+}
+
+// ---- the body
+
+pub fn body_range(s: &[u8]) -> Range
+    ensures { λ r. ⌜ saidRange r ≡ bodyRange (now (s .entry)) ⌝ }
+{
+    if s.len() < 10 {
+        return Range::Refused(short(s.len()));
+    }
+    Range::Is {
+        from: 10,
+        to: s.len(),
+    }
+}
+
+pub fn body(s: &[u8]) -> &[u8]
+    ensures { λ r. ⌜ now r ≡ partIn (bodyRange (now (s .entry))) (now (s .entry)) ⌝ }
+{
+    part(s, body_range(s))
+}
+
+pub fn body_mut(s: &mut [u8]) -> &mut [u8]
+    ensures { λ r. ⌜ now r ≡ partIn (bodyRange (now (s .entry))) (now (s .entry)) ⌝ }
+{
+    let range = body_range(s);
+    part_mut(s, range)
+}
+
+// ---- casts
+
+// What is judged of a response behind its size: its code, where it passes.
+fn judge(s: &[u8]) -> Number32
+    ensures { λ r. ⌜ saidNumber32 r ≡ judgeResponse (now (s .entry)) ⌝ }
+{
+    match frame_tag(s) {
+        Number16::Refused(e) => Number32::Refused(e),
+        Number16::Is(_) => rc(s),
+    }
+}
+
+fn cast_code(s: &[u8]) -> Number32
+    ensures { λ r. ⌜ saidNumber32 r ≡ castResponse (now (s .entry)) ⌝ }
+{
+    match frame_whole(s) {
+        Count::Refused(e) => Number32::Refused(e),
+        Count::Is(_) => judge(s),
+    }
+}
+
+pub fn cast_range(s: &[u8]) -> Range
+    ensures { λ r. ⌜ saidRange r ≡ whole (now (s .entry)) (castResponse (now (s .entry))) ⌝ }
+{
+    match cast_code(s) {
+        Number32::Refused(e) => Range::Refused(e),
+        Number32::Is(_) => Range::Is {
+            from: 0,
+            to: s.len(),
+        },
+    }
+}
+
+pub fn cast(s: &[u8]) -> &[u8]
+    ensures { λ r. ⌜ now r ≡ partIn (whole (now (s .entry)) (castResponse (now (s .entry)))) (now (s .entry)) ⌝ }
+{
+    part(s, cast_range(s))
+}
+
+pub fn cast_mut(s: &mut [u8]) -> &mut [u8]
+    ensures { λ r. ⌜ now r ≡ partIn (whole (now (s .entry)) (castResponse (now (s .entry)))) (now (s .entry)) ⌝ }
+{
+    let range = cast_range(s);
+    part_mut(s, range)
+}
+
+// The response at the start of s.
+pub fn cast_prefix_range(s: &[u8]) -> Range
+    ensures { λ r. ⌜ saidRange r ≡ upTo (castResponsePrefix (now (s .entry))) ⌝ }
+{
+    match frame_prefix(s) {
+        Count::Refused(e) => Range::Refused(e),
+        Count::Is(n) => match judge(&s[..n]) {
+            Number32::Refused(e) => Range::Refused(e),
+            Number32::Is(_) => Range::Is { from: 0, to: n },
+        },
+    }
+}
+
+pub fn cast_prefix(s: &[u8]) -> &[u8]
+    ensures { λ r. ⌜ now r ≡ partIn (upTo (castResponsePrefix (now (s .entry)))) (now (s .entry)) ⌝ }
+{
+    part(s, cast_prefix_range(s))
+}
+
+pub fn cast_prefix_mut(s: &mut [u8]) -> &mut [u8]
+    ensures { λ r. ⌜ now r ≡ partIn (upTo (castResponsePrefix (now (s .entry)))) (now (s .entry)) ⌝ }
+{
+    let range = cast_prefix_range(s);
+    part_mut(s, range)
+}
+
+// What stands behind the response at the start of s.
+pub fn cast_prefix_tail(s: &[u8]) -> &[u8]
+    ensures { λ r. ⌜ now r ≡ tailIn (upTo (castResponsePrefix (now (s .entry)))) (now (s .entry)) ⌝ }
+{
+    tail(s, cast_prefix_range(s))
+}
+
+pub fn cast_prefix_tail_mut(s: &mut [u8]) -> &mut [u8]
+    ensures { λ r. ⌜ now r ≡ tailIn (upTo (castResponsePrefix (now (s .entry)))) (now (s .entry)) ⌝ }
+{
+    let range = cast_prefix_range(s);
+    tail_mut(s, range)
+}
+
+// ---- the full check
+
+// The areas of a success response.
+fn success_areas(responses: u8, s: &[u8]) -> Divided
+    requires { ⌜ 10 ≤ length (now s) ⌝ }
+    ensures { λ r. ⌜ saidAreas r ≡ successAreas responses (now (s .entry)) ⌝ }
+{
+    match handle_area(responses, s) {
+        Count::Refused(e) => Divided::Refused(e),
+        Count::Is(handles) => {
+            let tag = be16(s[0], s[1]);
+            sized_area(tag == 0x8002, s.len(), s, handles)
+        }
+    }
+}
+
+// The areas of an error response: a bare header under the plain tag.
+fn error_areas(s: &[u8]) -> Divided
+    requires { ⌜ 10 ≤ length (now s) ⌝ }
+    ensures { λ r. ⌜ saidAreas r ≡ errorAreas (now (s .entry)) ⌝ }
+{
+    let tag = TpmSt(be16(s[0], s[1]));
+    if tag.0 == 0x8001 {
+        if 10 < s.len() {
+            return Divided::Refused(TpmError::TrailingData {
+                offset: 10,
+                actual: s.len() - 10,
+            });
+        }
+        Divided::Is(Areas {
+            handles: 10,
+            from: 10,
+            to: 10,
+        })
+    } else {
+        Divided::Refused(tag.refused(0))
+    }
+}
+
+fn areas(cc: TpmCc, s: &[u8]) -> Divided
+    ensures { λ r. ⌜ saidAreas r ≡ responseAreas dispatch (cc .0) (now (s .entry)) ⌝ }
+{
+    match cast_code(s) {
+        Number32::Refused(e) => Divided::Refused(e),
+        Number32::Is(code) => match find(cc) {
+            Found::Refused(e) => Divided::Refused(e),
+            Found::Is(row) => {
+                if code == 0 {
+                    success_areas(row.responses, s)
+                } else {
+                    error_areas(s)
+                }
+            }
+        },
+    }
+}
+
+pub fn validate(cc: TpmCc, s: &[u8]) -> Outcome
+    ensures { λ r. ⌜ saidOutcome r ≡ done (readResponse dispatch (cc .0) (now (s .entry))) ⌝ }
+{
+    match areas(cc, s) {
+        Divided::Refused(e) => Outcome::Refused(e),
+        Divided::Is(a) => match walk(false, s, a.to) {
+            Walked::Refused(e) => Outcome::Refused(e),
+            Walked::Is(_) => Outcome::Done,
+        },
+    }
+}
+
+// All parts of a passing response.
+pub fn parts(cc: TpmCc, s: &[u8]) -> ResponseRead
+    ensures { λ r. ⌜ saidResponse r ≡ responseByValue (now (s .entry)) (readResponse dispatch (cc .0) (now (s .entry))) ⌝ }
+{
+    match areas(cc, s) {
+        Divided::Refused(e) => ResponseRead::Refused(e),
+        Divided::Is(a) => match walk(false, s, a.to) {
+            Walked::Refused(e) => ResponseRead::Refused(e),
+            Walked::Is(entries) => ResponseRead::Is(Response {
+                tag: TpmSt(be16(s[0], s[1])),
+                rc: TpmRc(be32(s[6], s[7], s[8], s[9])),
+                handles: Span {
+                    from: 10,
+                    to: a.handles,
+                },
+                parameters: Span {
+                    from: a.from,
+                    to: a.to,
+                },
+                auth: Span {
+                    from: a.to,
+                    to: s.len(),
+                },
+                entries,
+            }),
+        },
+    }
+}

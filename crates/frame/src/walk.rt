@@ -1,0 +1,166 @@
+// The walk over the entries of an authorization area, one for commands and responses.
+ghost use mathlib.Core.Path.{_≡_};
+ghost use mathlib.Core.List.{List, [], _∷_, _++_};
+ghost use Prim.Native.Nat.{_<_};
+ghost use lib.ListN.{length};
+ghost use Rattle.base.specs.Answer.{saidNumber16};
+ghost use Rattle.frame.specs.Answer.{entriesByValue, handleWidth, saidEntered, saidWalked};
+ghost use Rattle.frame.specs.Walk.{byValue, none, readEntry, readSigned, readTpm2b, walk};
+ghost use Rattle.frame.specs.declared.session.Session.{Session};
+use crate::session::Entries;
+use crate::session::Field;
+use crate::session::Session;
+use base::answer::Number16;
+use base::answer::Number32;
+use base::error::TpmError;
+use base::field::read_u16;
+use base::field::read_u32;
+
+pub enum Entered {
+    Is(Session),
+    Refused(TpmError),
+}
+
+pub enum Walked {
+    Is(Entries),
+    Refused(TpmError),
+}
+
+// The size of the TPM2B at a place. A short one is refused at its length field, and its length counts.
+fn tpm2b(s: &[u8], place: usize) -> Number16
+    ensures { λ r. ⌜ saidNumber16 r ≡ readTpm2b (now (s .entry)) place ⌝ }
+{
+    let read = read_u16(s, place);
+    let Number16::Is(size) = read else {
+        return read;
+    };
+    let needed = 2 + size as usize;
+    let left = s.len() - place;
+    if left < needed {
+        return Number16::Refused(TpmError::UnexpectedEnd {
+            offset: place,
+            needed,
+            available: left,
+        });
+    }
+    Number16::Is(size)
+}
+
+// What every entry has: nonce, attribute byte and HMAC.
+fn signed(handle: u32, s: &[u8], place: usize) -> Entered
+    ensures { λ r. ⌜ saidEntered r ≡ readSigned handle (now (s .entry)) place ⌝ }
+{
+    match tpm2b(s, place) {
+        Number16::Refused(e) => Entered::Refused(e),
+        Number16::Is(nonce) => {
+            let at = place + 2 + nonce as usize;
+            if s.len() <= at {
+                return Entered::Refused(TpmError::UnexpectedEnd {
+                    offset: at,
+                    needed: 1,
+                    available: 0,
+                });
+            }
+            match tpm2b(s, at + 1) {
+                Number16::Refused(e) => Entered::Refused(e),
+                Number16::Is(hmac) => Entered::Is(Session {
+                    handle,
+                    nonce: Field {
+                        at: place + 2,
+                        size: nonce,
+                    },
+                    attributes: s[at],
+                    hmac: Field {
+                        at: at + 3,
+                        size: hmac,
+                    },
+                }),
+            }
+        }
+    }
+}
+
+// An entry, with a handle before it in a command.
+fn entry(command: bool, s: &[u8], place: usize) -> Entered
+    ensures { λ r. ⌜ saidEntered r ≡ readEntry (handleWidth command) (now (s .entry)) place ⌝ }
+{
+    if command {
+        match read_u32(s, place) {
+            Number32::Refused(e) => Entered::Refused(e),
+            Number32::Is(handle) => signed(handle, s, place + 4),
+        }
+    } else {
+        signed(0, s, place)
+    }
+}
+
+impl Session {
+    fn none() -> Self
+        ensures { λ r. ⌜ r ≡ none ⌝ }
+    {
+        Session {
+            handle: 0,
+            nonce: Field { at: 0, size: 0 },
+            attributes: 0,
+            hmac: Field { at: 0, size: 0 },
+        }
+    }
+}
+
+impl Entries {
+    fn new() -> Self
+        ensures { λ r. ⌜ r ≡ byValue [] ⌝ }
+    {
+        Entries {
+            count: 0,
+            first: Session::none(),
+            second: Session::none(),
+            third: Session::none(),
+        }
+    }
+
+    // One entry more, of three at the most.
+    fn with(mut self, e: Session) -> Self
+        requires { ⌜ self .count < 3 ⌝ }
+        ensures { λ r. ⌜ ((es : List Session) → self ≡ byValue es → r ≡ byValue (es ++ (e ∷ []))) ⌝ }
+    {
+        if self.count == 0 {
+            self.count = 1;
+            self.first = e;
+            return self;
+        }
+        if self.count == 1 {
+            self.count = 2;
+            self.second = e;
+            return self;
+        }
+        self.count = 3;
+        self.third = e;
+        self
+    }
+}
+
+// The entries from a place of s to its end.
+pub(crate) fn walk(command: bool, s: &[u8], place: usize) -> Walked
+    ensures { λ r. ⌜ saidWalked r ≡ entriesByValue (walk 3 (handleWidth command) (now (s .entry)) place) ⌝ }
+{
+    let mut found = Entries::new();
+    let mut at = place;
+    while at < s.len() {
+        if found.count == 3 {
+            return Walked::Refused(TpmError::TooManyItems {
+                offset: at,
+                limit: 3,
+                actual: 4,
+            });
+        }
+        match entry(command, s, at) {
+            Entered::Refused(e) => return Walked::Refused(e),
+            Entered::Is(e) => {
+                at = e.hmac.at + e.hmac.size as usize;
+                found = found.with(e);
+            }
+        }
+    }
+    Walked::Is(found)
+}
