@@ -70,6 +70,54 @@ use Rattle.capi.proofs.buffer1024.skein_buffer1024_from_slice.Kinds as 
 use Rattle.capi.proofs.buffer1024.skein_buffer1024_from_slice.Reads as skein-buffer1024-from-slice-reads
 use Rattle.capi.proofs.buffer1024.skein_buffer1024_unmarshal.Kinds as skein-buffer1024-unmarshal-kinds
 use Rattle.capi.proofs.buffer1024.skein_buffer1024_unmarshal.Reads as skein-buffer1024-unmarshal-reads
+use Rattle.capi.proofs.dispatch.skein_table_find.Kinds as skein-table-find-kinds
+use Rattle.capi.proofs.dispatch.skein_table_find.Reads as skein-table-find-reads
+use Rattle.capi.proofs.dispatch.skein_table_known.Kinds as skein-table-known-kinds
+use Rattle.capi.proofs.dispatch.skein_table_known.Reads as skein-table-known-reads
+use Rattle.capi.proofs.dispatch.skein_tag_known.Kinds as skein-tag-known-kinds
+use Rattle.capi.proofs.dispatch.skein_tag_known.Reads as skein-tag-known-reads
+use Rattle.capi.proofs.header.skein_frame_tag.Kinds as skein-frame-tag-kinds
+use Rattle.capi.proofs.header.skein_frame_tag.Reads as skein-frame-tag-reads
+use Rattle.capi.proofs.header.skein_frame_size.Kinds as skein-frame-size-kinds
+use Rattle.capi.proofs.header.skein_frame_size.Reads as skein-frame-size-reads
+use Rattle.capi.proofs.header.skein_frame_len.Kinds as skein-frame-len-kinds
+use Rattle.capi.proofs.header.skein_frame_len.Reads as skein-frame-len-reads
+use Rattle.capi.proofs.header.skein_frame_is_empty.Kinds as skein-frame-is-empty-kinds
+use Rattle.capi.proofs.header.skein_frame_is_empty.Reads as skein-frame-is-empty-reads
+use Rattle.capi.proofs.header.skein_frame_set_tag.Kinds as skein-frame-set-tag-kinds
+use Rattle.capi.proofs.header.skein_frame_set_tag.Reads as skein-frame-set-tag-reads
+use Rattle.capi.proofs.command.skein_command_cast.Kinds as skein-command-cast-kinds
+use Rattle.capi.proofs.command.skein_command_cast.Reads as skein-command-cast-reads
+use Rattle.capi.proofs.command.skein_command_handles.Kinds as skein-command-handles-kinds
+use Rattle.capi.proofs.command.skein_command_handles.Reads as skein-command-handles-reads
+use Rattle.capi.proofs.command.skein_command_auth_area.Kinds as skein-command-auth-area-kinds
+use Rattle.capi.proofs.command.skein_command_auth_area.Reads as skein-command-auth-area-reads
+use Rattle.capi.proofs.command.skein_command_parameters.Kinds as skein-command-parameters-kinds
+use Rattle.capi.proofs.command.skein_command_parameters.Reads as skein-command-parameters-reads
+use Rattle.capi.proofs.command.skein_command_cast_prefix.Kinds as skein-command-cast-prefix-kinds
+use Rattle.capi.proofs.command.skein_command_cast_prefix.Reads as skein-command-cast-prefix-reads
+use Rattle.capi.proofs.command.skein_command_validate.Kinds as skein-command-validate-kinds
+use Rattle.capi.proofs.command.skein_command_validate.Reads as skein-command-validate-reads
+use Rattle.capi.proofs.command.skein_command_cc.Kinds as skein-command-cc-kinds
+use Rattle.capi.proofs.command.skein_command_cc.Reads as skein-command-cc-reads
+use Rattle.capi.proofs.command.skein_command_set_cc.Kinds as skein-command-set-cc-kinds
+use Rattle.capi.proofs.command.skein_command_set_cc.Reads as skein-command-set-cc-reads
+use Rattle.capi.proofs.command.skein_command_parts.Kinds as skein-command-parts-kinds
+use Rattle.capi.proofs.command.skein_command_parts.Reads as skein-command-parts-reads
+use Rattle.capi.proofs.response.skein_response_cast.Kinds as skein-response-cast-kinds
+use Rattle.capi.proofs.response.skein_response_cast.Reads as skein-response-cast-reads
+use Rattle.capi.proofs.response.skein_response_cast_prefix.Kinds as skein-response-cast-prefix-kinds
+use Rattle.capi.proofs.response.skein_response_cast_prefix.Reads as skein-response-cast-prefix-reads
+use Rattle.capi.proofs.response.skein_response_rc.Kinds as skein-response-rc-kinds
+use Rattle.capi.proofs.response.skein_response_rc.Reads as skein-response-rc-reads
+use Rattle.capi.proofs.response.skein_response_body.Kinds as skein-response-body-kinds
+use Rattle.capi.proofs.response.skein_response_body.Reads as skein-response-body-reads
+use Rattle.capi.proofs.response.skein_response_validate.Kinds as skein-response-validate-kinds
+use Rattle.capi.proofs.response.skein_response_validate.Reads as skein-response-validate-reads
+use Rattle.capi.proofs.response.skein_response_set_rc.Kinds as skein-response-set-rc-kinds
+use Rattle.capi.proofs.response.skein_response_set_rc.Reads as skein-response-set-rc-reads
+use Rattle.capi.proofs.response.skein_response_parts.Kinds as skein-response-parts-kinds
+use Rattle.capi.proofs.response.skein_response_parts.Reads as skein-response-parts-reads
 
 -- two reports of one answer are one
 module _ {A : Type 0} {of : A → List ℕ} {said : Said A} {old s t : List ℕ} {r q : ℕ} where
@@ -174,3 +222,75 @@ skein-buffer1024-from-slice κs a x y v w p q = (status (p .0) (q .0), λ i. (tt
 
 skein-buffer1024-unmarshal : Single 3 skein-buffer1024-unmarshal-kinds.ps skein-buffer1024-unmarshal-kinds.r skein-buffer1024-unmarshal-reads.Post
 skein-buffer1024-unmarshal κs a x y v w p q = (status (p .0) (q .0), λ i. (tt, ((p .1 ∙ sym (q .1)) i, (array (p .0) (q .0) i, tt))))
+
+skein-table-find : Single 1 skein-table-find-kinds.ps skein-table-find-kinds.r skein-table-find-reads.Post
+skein-table-find κs a x y v w p q = (status p q, λ i. (tt, (array p q i, tt)))
+
+skein-table-known : Single 1 skein-table-known-kinds.ps skein-table-known-kinds.r skein-table-known-reads.Post
+skein-table-known κs a x y v w p q = (status p q, λ i. (tt, (array p q i, tt)))
+
+skein-tag-known : Single 1 skein-tag-known-kinds.ps skein-tag-known-kinds.r skein-tag-known-reads.Post
+skein-tag-known κs a x y v w p q = (status p q, λ i. (tt, (array p q i, tt)))
+
+skein-frame-tag : Single 2 skein-frame-tag-kinds.ps skein-frame-tag-kinds.r skein-frame-tag-reads.Post
+skein-frame-tag κs a x y v w p q = (status p q, λ i. (tt, (array p q i, tt)))
+
+skein-frame-size : Single 2 skein-frame-size-kinds.ps skein-frame-size-kinds.r skein-frame-size-reads.Post
+skein-frame-size κs a x y v w p q = (status p q, λ i. (tt, (array p q i, tt)))
+
+skein-frame-len : Single 2 skein-frame-len-kinds.ps skein-frame-len-kinds.r skein-frame-len-reads.Post
+skein-frame-len κs a x y v w p q = (status p q, λ i. (tt, (array p q i, tt)))
+
+skein-frame-is-empty : Single 2 skein-frame-is-empty-kinds.ps skein-frame-is-empty-kinds.r skein-frame-is-empty-reads.Post
+skein-frame-is-empty κs a x y v w p q = (status p q, λ i. (tt, (array p q i, tt)))
+
+skein-frame-set-tag : Single 2 skein-frame-set-tag-kinds.ps skein-frame-set-tag-kinds.r skein-frame-set-tag-reads.Post
+skein-frame-set-tag κs a x y v w p q = (status (p .0) (q .0), λ i. ((p .1 ∙ sym (q .1)) i, (tt, (array (p .0) (q .0) i, tt))))
+
+skein-command-cast : Single 2 skein-command-cast-kinds.ps skein-command-cast-kinds.r skein-command-cast-reads.Post
+skein-command-cast κs a x y v w p q = (status p q, λ i. (tt, (array p q i, tt)))
+
+skein-command-handles : Single 2 skein-command-handles-kinds.ps skein-command-handles-kinds.r skein-command-handles-reads.Post
+skein-command-handles κs a x y v w p q = (status p q, λ i. (tt, (array p q i, tt)))
+
+skein-command-auth-area : Single 2 skein-command-auth-area-kinds.ps skein-command-auth-area-kinds.r skein-command-auth-area-reads.Post
+skein-command-auth-area κs a x y v w p q = (status p q, λ i. (tt, (array p q i, tt)))
+
+skein-command-parameters : Single 2 skein-command-parameters-kinds.ps skein-command-parameters-kinds.r skein-command-parameters-reads.Post
+skein-command-parameters κs a x y v w p q = (status p q, λ i. (tt, (array p q i, tt)))
+
+skein-command-cast-prefix : Single 2 skein-command-cast-prefix-kinds.ps skein-command-cast-prefix-kinds.r skein-command-cast-prefix-reads.Post
+skein-command-cast-prefix κs a x y v w p q = (status p q, λ i. (tt, (array p q i, tt)))
+
+skein-command-validate : Single 2 skein-command-validate-kinds.ps skein-command-validate-kinds.r skein-command-validate-reads.Post
+skein-command-validate κs a x y v w p q = (status p q, λ i. (tt, (array p q i, tt)))
+
+skein-command-cc : Single 2 skein-command-cc-kinds.ps skein-command-cc-kinds.r skein-command-cc-reads.Post
+skein-command-cc κs a x y v w p q = (status p q, λ i. (tt, (array p q i, tt)))
+
+skein-command-set-cc : Single 2 skein-command-set-cc-kinds.ps skein-command-set-cc-kinds.r skein-command-set-cc-reads.Post
+skein-command-set-cc κs a x y v w p q = (status (p .0) (q .0), λ i. ((p .1 ∙ sym (q .1)) i, (tt, (array (p .0) (q .0) i, tt))))
+
+skein-command-parts : Single 3 skein-command-parts-kinds.ps skein-command-parts-kinds.r skein-command-parts-reads.Post
+skein-command-parts κs a x y v w p q = (status (p .0) (q .0), λ i. (tt, ((p .1 ∙ sym (q .1)) i, (array (p .0) (q .0) i, tt))))
+
+skein-response-cast : Single 2 skein-response-cast-kinds.ps skein-response-cast-kinds.r skein-response-cast-reads.Post
+skein-response-cast κs a x y v w p q = (status p q, λ i. (tt, (array p q i, tt)))
+
+skein-response-cast-prefix : Single 2 skein-response-cast-prefix-kinds.ps skein-response-cast-prefix-kinds.r skein-response-cast-prefix-reads.Post
+skein-response-cast-prefix κs a x y v w p q = (status p q, λ i. (tt, (array p q i, tt)))
+
+skein-response-rc : Single 2 skein-response-rc-kinds.ps skein-response-rc-kinds.r skein-response-rc-reads.Post
+skein-response-rc κs a x y v w p q = (status p q, λ i. (tt, (array p q i, tt)))
+
+skein-response-body : Single 2 skein-response-body-kinds.ps skein-response-body-kinds.r skein-response-body-reads.Post
+skein-response-body κs a x y v w p q = (status p q, λ i. (tt, (array p q i, tt)))
+
+skein-response-validate : Single 2 skein-response-validate-kinds.ps skein-response-validate-kinds.r skein-response-validate-reads.Post
+skein-response-validate κs a x y v w p q = (status p q, λ i. (tt, (tt, (array p q i, tt))))
+
+skein-response-set-rc : Single 2 skein-response-set-rc-kinds.ps skein-response-set-rc-kinds.r skein-response-set-rc-reads.Post
+skein-response-set-rc κs a x y v w p q = (status (p .0) (q .0), λ i. ((p .1 ∙ sym (q .1)) i, (tt, (array (p .0) (q .0) i, tt))))
+
+skein-response-parts : Single 3 skein-response-parts-kinds.ps skein-response-parts-kinds.r skein-response-parts-reads.Post
+skein-response-parts κs a x y v w p q = (status (p .0) (q .0), λ i. (tt, (tt, ((p .1 ∙ sym (q .1)) i, (array (p .0) (q .0) i, tt)))))

@@ -1,3 +1,4 @@
 pub mod Buffer
 pub mod Code
+pub mod Frame
 pub mod Out

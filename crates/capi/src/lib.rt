@@ -4,6 +4,11 @@
 pub mod buffer1024;
 pub mod buffer64;
 pub mod code;
+pub mod command;
+pub mod dispatch;
+mod entries;
 pub mod field;
+pub mod header;
 mod out;
+pub mod response;
 pub mod tpm2b;

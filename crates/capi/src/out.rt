@@ -3,6 +3,7 @@ ghost use mathlib.Core.Path.{_≡_};
 ghost use mathlib.Core.List.{[], _∷_};
 ghost use Rattle.base.specs.Error.{numbered};
 ghost use Rattle.base.specs.Answer.{saidCount, saidFlag, saidNumber16, saidNumber32, saidOutcome, saidRange};
+ghost use Rattle.capi.specs.Frame.{partAndTail};
 ghost use Rattle.capi.specs.Out.{Reports, ends, fields, first, none, one, storedOver, truth};
 use base::answer::Count;
 use base::answer::Flag;
@@ -131,6 +132,22 @@ pub(crate) fn range(a: Range, out: &mut Numbers) -> u32
 {
     match a {
         Range::Is { from, to } => two(0, from, to as u64, out),
+        Range::Refused(e) => refuse(e, out),
+    }
+}
+
+// A part from the start of so many bytes, and what is behind it.
+pub(crate) fn with_tail(a: Range, all: usize, out: &mut Numbers) -> u32
+    ensures { λ r. ⌜ Reports (partAndTail all) (saidRange a) (now (out .entry)) (now (out .exit)) r ⌝ }
+{
+    match a {
+        Range::Is { from, to } => {
+            out[0] = from as u64;
+            out[1] = to as u64;
+            out[2] = to as u64;
+            out[3] = all as u64;
+            0
+        }
         Range::Refused(e) => refuse(e, out),
     }
 }
