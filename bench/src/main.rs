@@ -8,6 +8,8 @@
 #[allow(dead_code)]
 #[path = "../../compare/src/calls.rs"]
 mod calls;
+mod frame;
+mod frames;
 #[allow(dead_code)]
 #[path = "../../compare/src/oracle.rs"]
 mod oracle;

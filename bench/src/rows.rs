@@ -5,6 +5,7 @@
 //! optimised away.
 
 use crate::calls::{self, Data, Out};
+use crate::frames;
 use crate::oracle;
 use crate::random::Random;
 use std::hint::black_box;
@@ -33,9 +34,36 @@ pub static ROWS: &[Row] = &[
     Row { name: "buffer extend, 1,024 bytes", run: extend::<1024> },
     Row { name: "buffer marshal, 64 bytes", run: marshal::<64> },
     Row { name: "buffer marshal, 1,024 bytes", run: marshal::<1024> },
+    Row { name: "command cast, real frames", run: frames::command_cast },
+    Row { name: "response cast, real frames", run: frames::response_cast },
+    Row { name: "command validate, real frames", run: |side, n| frames::command_validate(side, n, frames::real()) },
+    Row { name: "response validate, real frames", run: |side, n| frames::response_validate(side, n, frames::real()) },
+    Row { name: "command areas, real frames", run: frames::command_areas },
+    Row { name: "command parts, real frames", run: frames::command_parts },
+    Row { name: "response parts, real frames", run: frames::response_parts },
+    Row { name: "command validate, 1 entry", run: |side, n| frames::command_validate(side, n, &frames::made(1, 0)) },
+    Row { name: "command validate, 2 entries", run: |side, n| frames::command_validate(side, n, &frames::made(2, 0)) },
+    Row { name: "command validate, 3 entries", run: |side, n| frames::command_validate(side, n, &frames::made(3, 0)) },
+    Row {
+        name: "the same, 3,000 parameter bytes",
+        run: |side, n| frames::command_validate(side, n, &frames::made(3, 3000)),
+    },
+    Row { name: "response validate, 1 entry", run: |side, n| frames::response_validate(side, n, &frames::made(1, 0)) },
+    Row {
+        name: "response validate, 2 entries",
+        run: |side, n| frames::response_validate(side, n, &frames::made(2, 0)),
+    },
+    Row {
+        name: "response validate, 3 entries",
+        run: |side, n| frames::response_validate(side, n, &frames::made(3, 0)),
+    },
+    Row {
+        name: "the same with 3,000 parameter bytes",
+        run: |side, n| frames::response_validate(side, n, &frames::made(3, 3000)),
+    },
 ];
 
-fn repeat(n: u64, mut call: impl FnMut(&mut Out) -> u32) {
+pub fn repeat(n: u64, mut call: impl FnMut(&mut Out) -> u32) {
     let mut out = [0; 8];
     for _ in 0..n {
         black_box(call(black_box(&mut out)));

@@ -4,20 +4,39 @@
 //! a number that should have been left alone, or a byte beside a slice, counts as much as the answer itself. The room
 //! is kept from call to call: once it is large enough, nothing is allocated.
 
-use crate::calls::Out;
+use crate::calls::{Entries, Out};
 use std::fmt;
 use std::ops::Range;
 
-/// What the lent array holds before a call: numbers that no answer has, each its own.
-const UNTOUCHED: Out = {
-    let mut out = [0xA5A5_5A5A_C3C3_3C00; 8];
+/// What a lent array holds before a call: numbers that no answer has, each its own.
+const fn untouched<const N: usize>() -> [u64; N] {
+    let mut numbers = [0xA5A5_5A5A_C3C3_3C00; N];
     let mut i = 0;
-    while i < out.len() {
-        out[i] += i as u64;
+    while i < N {
+        numbers[i] += i as u64;
         i += 1;
     }
-    out
-};
+    numbers
+}
+
+const UNTOUCHED: Out = untouched();
+const NO_ENTRIES: Entries = untouched();
+
+/// The numbers of a lent array up to the first that is untouched.
+fn changed<const N: usize>(now: &[u64; N]) -> impl Iterator<Item = u64> {
+    let changed = |(now, before): (&u64, u64)| (*now != before).then_some(*now);
+    now.iter().zip(untouched::<N>()).map_while(changed)
+}
+
+/// A lent array, with a dot where it is untouched.
+fn show<const N: usize>(numbers: &[u64; N], f: &mut fmt::Formatter) -> fmt::Result {
+    write!(f, "[")?;
+    for (i, (now, before)) in numbers.iter().zip(untouched::<N>()).enumerate() {
+        let gap = if i == 0 { "" } else { " " };
+        if *now == before { write!(f, "{gap}.")? } else { write!(f, "{gap}{now}")? }
+    }
+    write!(f, "]")
+}
 
 /// The number that a call returns, and the lent array.
 #[derive(Clone, Copy, PartialEq, Eq)]
@@ -52,20 +71,15 @@ impl Said {
 
     /// The numbers that were reported.
     pub fn values(&self) -> impl Iterator<Item = u64> {
-        let changed = |(now, before): (&u64, &u64)| (now != before).then_some(*now);
-        self.out.iter().zip(&UNTOUCHED).map_while(changed)
+        changed(&self.out)
     }
 }
 
 /// The number, and the array with a dot where it is untouched.
 impl fmt::Display for Said {
     fn fmt(&self, f: &mut fmt::Formatter) -> fmt::Result {
-        write!(f, "{} [", self.number)?;
-        for (i, (now, before)) in self.out.iter().zip(&UNTOUCHED).enumerate() {
-            let gap = if i == 0 { "" } else { " " };
-            if now == before { write!(f, "{gap}.")? } else { write!(f, "{gap}{now}")? }
-        }
-        write!(f, "]")
+        write!(f, "{} ", self.number)?;
+        show(&self.out, f)
     }
 }
 
@@ -114,18 +128,21 @@ impl fmt::Display for Room {
 #[derive(PartialEq, Eq)]
 pub struct Answer {
     pub said: Said,
+    /// The second lent array of the calls that take one.
+    entries: Entries,
     /// One for each slice that is lent.
     rooms: Vec<Room>,
 }
 
 impl Answer {
     pub fn new() -> Self {
-        Self { said: Said::NOTHING, rooms: Vec::new() }
+        Self { said: Said::NOTHING, entries: NO_ENTRIES, rooms: Vec::new() }
     }
 
     /// The state before a call that is lent these slices.
     pub fn preset<const N: usize>(&mut self, lent: [&[u8]; N]) {
         self.said = Said::NOTHING;
+        self.entries = NO_ENTRIES;
         self.rooms.resize_with(N, Room::default);
         for (room, bytes) in self.rooms.iter_mut().zip(lent) {
             room.preset(bytes);
@@ -145,6 +162,22 @@ impl Answer {
         number.is_some()
     }
 
+    /// The same with a call that is lent one slice and the second array.
+    pub fn try_call_with_entries(
+        &mut self,
+        call: impl FnOnce(&mut [u8], &mut Entries, &mut Out) -> Option<u32>,
+    ) -> bool {
+        let Self { said, entries, rooms } = self;
+        let number = call(rooms[0].bytes_mut(), entries, &mut said.out);
+        said.number = number.unwrap_or(said.number);
+        number.is_some()
+    }
+
+    /// All numbers that were reported, those of the second array behind the first's.
+    pub fn values(&self) -> impl Iterator<Item = u64> {
+        self.said.values().chain(changed(&self.entries))
+    }
+
     /// The bytes of a lent slice, counted from 0.
     pub fn bytes(&self, which: usize) -> &[u8] {
         self.rooms[which].bytes()
@@ -155,10 +188,14 @@ impl Answer {
     }
 }
 
-/// What was said, then the lent slices.
+/// What was said, then the second array where it is changed, then the lent slices.
 impl fmt::Display for Answer {
     fn fmt(&self, f: &mut fmt::Formatter) -> fmt::Result {
         write!(f, "{}", self.said)?;
+        if self.entries != NO_ENTRIES {
+            write!(f, " ")?;
+            show(&self.entries, f)?;
+        }
         self.rooms.iter().try_for_each(|room| write!(f, " ; {room}"))
     }
 }

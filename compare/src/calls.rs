@@ -6,6 +6,10 @@
 /// The lent array.
 pub type Out = [u64; 8];
 
+/// A second lent array, of the calls that give all parts of a frame: for each of the first three entries handle, nonce's
+/// place, nonce's length, attributes, HMAC's place and HMAC's length, zeros where there is no entry.
+pub type Entries = [u64; 18];
+
 /// A slice as C takes it: where it starts, and its length.
 trait Lent {
     type Start;
@@ -66,6 +70,34 @@ calls! {
     pub fn tpm2b_data([s: &[u8]]);
     pub fn tpm2b_is_empty([s: &[u8]]);
     pub fn tpm2b_len([s: &[u8]]);
+
+    pub fn table_find(code: u32, []);
+    pub fn table_known(code: u32, []);
+    pub fn tag_known(tag: u16, []);
+
+    pub fn frame_tag([s: &[u8]]);
+    pub fn frame_size([s: &[u8]]);
+    pub fn frame_set_tag([s: &mut [u8]], tag: u16);
+    pub fn frame_len([s: &[u8]]);
+    pub fn frame_is_empty([s: &[u8]]);
+
+    pub fn command_cast([s: &[u8]]);
+    pub fn command_cast_prefix([s: &[u8]]);
+    pub fn command_validate([s: &[u8]]);
+    pub fn command_cc([s: &[u8]]);
+    pub fn command_set_cc([s: &mut [u8]], code: u32);
+    pub fn command_handles([s: &[u8]]);
+    pub fn command_auth_area([s: &[u8]]);
+    pub fn command_parameters([s: &[u8]]);
+    pub fn command_parts([s: &[u8]], entries: &mut Entries);
+
+    pub fn response_cast([s: &[u8]]);
+    pub fn response_cast_prefix([s: &[u8]]);
+    pub fn response_validate(cc: u32, [s: &[u8]]);
+    pub fn response_rc([s: &[u8]]);
+    pub fn response_set_rc([s: &mut [u8]], code: u32);
+    pub fn response_body([s: &[u8]]);
+    pub fn response_parts(cc: u32, [s: &[u8]], entries: &mut Entries);
 }
 
 /// The data of a fixed buffer, an array as long as the capacity, and the calls of that capacity.

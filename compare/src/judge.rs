@@ -160,7 +160,7 @@ pub fn list<C: Case>(case: &C, writes: bool) {
     if !C::JUDGES.iter().any(speaks) {
         return;
     }
-    let values: String = answer.said.values().map(|value| format!(" {value}")).collect();
+    let values: String = answer.values().map(|value| format!(" {value}")).collect();
     let later = if writes { format!(" ; {}", Hex(answer.bytes(0))) } else { String::new() };
     println!("{case} = {}{values}{later}", answer.said.number());
 }

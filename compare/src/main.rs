@@ -17,12 +17,14 @@ mod calls;
 mod edges;
 mod field;
 mod fixed;
+mod frame;
 mod judge;
 #[cfg(oracle)]
 mod oracle;
 mod random;
 mod rc;
 mod shrink;
+mod traffic;
 mod view;
 
 use judge::Tally;
@@ -37,11 +39,13 @@ struct Suite {
     list: fn(&mut Random),
 }
 
-static SUITES: [Suite; 4] = [
+static SUITES: [Suite; 6] = [
     Suite { name: "field", run: |random, _| field::run(random), list: field::list },
     Suite { name: "rc", run: rc::run, list: rc::list },
     Suite { name: "view", run: |random, _| view::run(random), list: view::list },
     Suite { name: "fixed", run: |random, _| fixed::run(random), list: |_| () },
+    Suite { name: "frame", run: frame::run, list: frame::list },
+    Suite { name: "traffic", run: |_, _| traffic::run(), list: |_| () },
 ];
 
 /// The seed of a run that names none, and of the fixed list.

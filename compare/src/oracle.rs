@@ -7,7 +7,7 @@ use tpm2_protocol::data::{TpmRc, TpmRcBase, TpmRcFmt1, TpmRcIndex};
 use tpm2_protocol::{TpmError, TpmMarshal, TpmResult, TpmSized, TpmUnmarshal, TpmWriter};
 
 /// What an error becomes that document 01 gives no number. No call of ours returns it, so it shows as a mismatch.
-const UNNUMBERED: u32 = u32::MAX;
+pub const UNNUMBERED: u32 = u32::MAX;
 
 pub fn refuse(error: TpmError, out: &mut Out) -> u32 {
     match error {
@@ -24,24 +24,24 @@ pub fn refuse(error: TpmError, out: &mut Out) -> u32 {
     }
 }
 
-fn give<const N: usize>(values: [u64; N], out: &mut Out) -> u32 {
+pub fn give<const N: usize>(values: [u64; N], out: &mut Out) -> u32 {
     put(0, values, out)
 }
 
 /// The answer with its numbers, or the refusal.
-fn tell<T, const N: usize>(said: TpmResult<T>, values: impl FnOnce(T) -> [u64; N], out: &mut Out) -> u32 {
+pub fn tell<T, const N: usize>(said: TpmResult<T>, values: impl FnOnce(T) -> [u64; N], out: &mut Out) -> u32 {
     match said {
         Ok(answer) => give(values(answer), out),
         Err(error) => refuse(error, out),
     }
 }
 
-fn put<const N: usize>(number: u32, values: [u64; N], out: &mut Out) -> u32 {
+pub fn put<const N: usize>(number: u32, values: [u64; N], out: &mut Out) -> u32 {
     out[..N].copy_from_slice(&values);
     number
 }
 
-fn wide<const N: usize>(counts: [usize; N]) -> [u64; N] {
+pub fn wide<const N: usize>(counts: [usize; N]) -> [u64; N] {
     counts.map(|count| count as u64)
 }
 
@@ -107,7 +107,7 @@ pub fn tpm2b_cast_prefix<const CAPACITY: usize>(s: &[u8], out: &mut Out) -> u32 
 }
 
 /// Where a part of a slice stands, counted from the slice's start.
-fn range(part: &[u8], start: *const u8) -> [u64; 2] {
+pub fn range(part: &[u8], start: *const u8) -> [u64; 2] {
     let from = part.as_ptr().addr() - start.addr();
     wide([from, from + part.len()])
 }

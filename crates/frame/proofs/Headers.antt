@@ -15,7 +15,8 @@ use Rattle.base.specs.Members.{isIn}
 use Rattle.base.specs.Said.{Said, gives, refuses, needs, then, given, done, after}
 use Rattle.base.proofs.Checks.{passes, fails, goes-on, stops, needs-gives, then-gives, gives-injective}
 use Rattle.base.proofs.Lists.{span, take-drop-span}
-use Rattle.rc.specs.Code.{readCode}
+use Rattle.rc.specs.Code.{readCode, readFmt0}
+use Rattle.rc.specs.Known.{isKnown, knownCodes}
 use Rattle.table.specs.Table.{rowFor}
 use Rattle.table.specs.Tags.{tags}
 use Rattle.table.specs.declared.row.Row.{Row}
@@ -95,6 +96,11 @@ module _ (s : List ℕ) where
     unfolding framePrefix
     prefix-read e h ten fits =
         rw (← e) (passes (leb n (length s)) _ _ (le-leb n (length s) fits) ∙ passes (leb 10 n) _ _ (le-leb 10 n ten) ∙ has-header _ h)
+
+  -- success reads
+  pub success-read : 0 ≡ codeOf s → 10 ≤ length s → gives 0 ≡ readRc s
+  unfolding readCode readFmt0 isKnown knownCodes
+  success-read e h = rc-read 0 e h refl
 
   -- a prefix that was read has a header and stands within the bytes
   pub prefix-fits : {n : ℕ} → gives n ≡ framePrefix s → (10 ≤ length s) × (10 ≤ n) × (n ≤ length s)

@@ -181,12 +181,6 @@ module _ {width : ℕ} {s : List ℕ} {place : ℕ} {found : Entries} {at : ℕ}
       let three = f .of-three in
       omega arith
 
-  pub one-counted : {e : Session} {new : Entries} → ((es : List Session) → found ≡ byValue es → new ≡ byValue (es ++ (e ∷ [])))
-      → new .count ≡ found .count + 1
-  one-counted one =
-      let n = found-count in
-      ap (λ (x : Entries). x .count) (one (f .entries) (f .by-value)) ∙ rw length-append (omega arith)
-
   -- what the rest refuses, the walk does
   rest-refused : {why : List ℕ} → refuses why ≡ walk (f .more) width s at → refuses why ≡ entriesByValue (walk 3 width s place)
   rest-refused r = stops (walk 3 width s place) _ (stops (walk (f .more) width s at) _ r ∙ sym (f .rest))

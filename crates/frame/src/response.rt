@@ -58,7 +58,7 @@ pub enum ResponseRead {
 
 // ---- the code
 
-// The response code, one that reads.
+// The response code, one that reads. Success is what most responses say, and it reads.
 pub fn rc(s: &[u8]) -> Number32
     ensures { λ r. ⌜ saidNumber32 r ≡ readRc (now (s .entry)) ⌝ }
 {
@@ -66,6 +66,9 @@ pub fn rc(s: &[u8]) -> Number32
         return Number32::Refused(short(s.len()));
     }
     let rc = TpmRc(be32(s[6], s[7], s[8], s[9]));
+    if rc.0 == 0 {
+        return Number32::Is(0);
+    }
     match read(rc) {
         Answer::Code(_) => Number32::Is(rc.0),
         Answer::Refused(_) => Number32::Refused(rc.refused(6)),

@@ -1,12 +1,9 @@
 // The walk over the entries of an authorization area, one for commands and responses.
 ghost use mathlib.Core.Path.{_≡_};
-ghost use mathlib.Core.List.{List, [], _∷_, _++_};
-ghost use Prim.Native.Nat.{_<_};
-ghost use lib.ListN.{length};
+ghost use mathlib.Core.List.{[]};
 ghost use Rattle.base.specs.Answer.{saidNumber16};
 ghost use Rattle.frame.specs.Answer.{entriesByValue, handleWidth, saidEntered, saidWalked};
 ghost use Rattle.frame.specs.Walk.{byValue, none, readEntry, readSigned, readTpm2b, walk};
-ghost use Rattle.frame.specs.declared.session.Session.{Session};
 use crate::session::Entries;
 use crate::session::Field;
 use crate::session::Session;
@@ -118,26 +115,6 @@ impl Entries {
             third: Session::none(),
         }
     }
-
-    // One entry more, of three at the most.
-    fn with(mut self, e: Session) -> Self
-        requires { ⌜ self .count < 3 ⌝ }
-        ensures { λ r. ⌜ ((es : List Session) → self ≡ byValue es → r ≡ byValue (es ++ (e ∷ []))) ⌝ }
-    {
-        if self.count == 0 {
-            self.count = 1;
-            self.first = e;
-            return self;
-        }
-        if self.count == 1 {
-            self.count = 2;
-            self.second = e;
-            return self;
-        }
-        self.count = 3;
-        self.third = e;
-        self
-    }
 }
 
 // The entries from a place of s to its end.
@@ -158,7 +135,18 @@ pub(crate) fn walk(command: bool, s: &[u8], place: usize) -> Walked
             Entered::Refused(e) => return Walked::Refused(e),
             Entered::Is(e) => {
                 at = e.hmac.at + e.hmac.size as usize;
-                found = found.with(e);
+                if found.count == 0 {
+                    found.count = 1;
+                    found.first = e;
+                    continue;
+                }
+                if found.count == 1 {
+                    found.count = 2;
+                    found.second = e;
+                    continue;
+                }
+                found.count = 3;
+                found.third = e;
             }
         }
     }

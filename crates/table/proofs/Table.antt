@@ -11,7 +11,7 @@ use lib.ListN.{take, drop, take-append-drop}
 use Rattle.base.specs.Members.{isIn}
 use Rattle.base.specs.Said.{gives, given}
 use Rattle.table.specs.declared.row.Row.{Row}
-use Rattle.table.specs.Dispatch.{dispatch, commandCodes}
+use Rattle.table.specs.Dispatch.{dispatch, part, commandCodes}
 use Rattle.table.specs.Table.{rowFor, belowFirst, rising, few}
 use Rattle.table.proofs.Rows.{row-before, row-within, row-few, row-given}
 
@@ -25,10 +25,7 @@ table-rising = and-eq-true-iff (rising dispatch) (few dispatch) .0 table-sound .
 pub table-few : few dispatch ≡ true
 table-few = and-eq-true-iff (rising dispatch) (few dispatch) .0 table-sound .1
 
--- the sixteen rows from a place on, and those behind them
-abbrev pub part : ℕ → List Row
-part n = take 16 (drop n dispatch)
-
+-- the rows behind a part
 abbrev pub behind : ℕ → List Row
 behind n = drop 16 (drop n dispatch)
 

@@ -3,6 +3,7 @@
 -- Assumes nothing: these are definitions.
 use Prim.Native.Nat.{ℕ}
 use mathlib.Core.List.{List, [], _∷_}
+use lib.ListN.{take, drop}
 use Rattle.table.specs.declared.row.Row.{Row}
 use Rattle.table.specs.Table.{codes}
 
@@ -34,3 +35,7 @@ dispatch =
 -- the codes that TpmCc has: in the crate, those of the table
 abbrev pub commandCodes : List ℕ
 commandCodes = codes dispatch
+
+-- the sixteen rows from a place on
+abbrev pub part : ℕ → List Row
+part n = take 16 (drop n dispatch)

@@ -1,10 +1,10 @@
 // The dispatch table, strictly rising by code, and its search. A row is one number that is read from its digits: 0x11f_2_0 is code
 // 0x11f with 2 handles and 0 response handles. The table stands in parts of up to sixteen rows, since a constant is laid out anew
-// where it is used: a search lays out the part that its code can stand in, and no more.
+// in each function that uses it: a search lays out the part that its code can stand in, and no more.
 ghost use mathlib.Core.Path.{_≡_};
 ghost use mathlib.Core.Bool.{true};
 ghost use Rattle.base.specs.Members.{isIn};
-ghost use Rattle.table.specs.Dispatch.{commandCodes, dispatch};
+ghost use Rattle.table.specs.Dispatch.{commandCodes, dispatch, part};
 ghost use Rattle.table.specs.Table.{rising, rowFor, saidFound};
 ghost use Rattle.table.specs.Packed.{unpacked};
 use crate::row::Found;
@@ -188,32 +188,81 @@ fn within(rows: &[u64], cc: TpmCc) -> Found
     Found::Refused(cc.refused(0))
 }
 
+// The row of a code in each part. A part is laid out in the function that uses it, so each has its own.
+fn from_11f(cc: TpmCc) -> Found
+    ensures { λ r. ⌜ saidFound r ≡ rowFor (part 0) (cc .0) ⌝ }
+{
+    within(&FROM_11F, cc)
+}
+
+fn from_130(cc: TpmCc) -> Found
+    ensures { λ r. ⌜ saidFound r ≡ rowFor (part 16) (cc .0) ⌝ }
+{
+    within(&FROM_130, cc)
+}
+
+fn from_140(cc: TpmCc) -> Found
+    ensures { λ r. ⌜ saidFound r ≡ rowFor (part 32) (cc .0) ⌝ }
+{
+    within(&FROM_140, cc)
+}
+
+fn from_150(cc: TpmCc) -> Found
+    ensures { λ r. ⌜ saidFound r ≡ rowFor (part 48) (cc .0) ⌝ }
+{
+    within(&FROM_150, cc)
+}
+
+fn from_162(cc: TpmCc) -> Found
+    ensures { λ r. ⌜ saidFound r ≡ rowFor (part 64) (cc .0) ⌝ }
+{
+    within(&FROM_162, cc)
+}
+
+fn from_173(cc: TpmCc) -> Found
+    ensures { λ r. ⌜ saidFound r ≡ rowFor (part 80) (cc .0) ⌝ }
+{
+    within(&FROM_173, cc)
+}
+
+fn from_184(cc: TpmCc) -> Found
+    ensures { λ r. ⌜ saidFound r ≡ rowFor (part 96) (cc .0) ⌝ }
+{
+    within(&FROM_184, cc)
+}
+
+fn from_194(cc: TpmCc) -> Found
+    ensures { λ r. ⌜ saidFound r ≡ rowFor (part 112) (cc .0) ⌝ }
+{
+    within(&FROM_194, cc)
+}
+
 // The row of a code.
 pub fn find(cc: TpmCc) -> Found
     ensures { λ r. ⌜ saidFound r ≡ rowFor dispatch (cc .0) ⌝ }
 {
     if cc.0 < 0x130 {
-        return within(&FROM_11F, cc);
+        return from_11f(cc);
     }
     if cc.0 < 0x140 {
-        return within(&FROM_130, cc);
+        return from_130(cc);
     }
     if cc.0 < 0x150 {
-        return within(&FROM_140, cc);
+        return from_140(cc);
     }
     if cc.0 < 0x162 {
-        return within(&FROM_150, cc);
+        return from_150(cc);
     }
     if cc.0 < 0x173 {
-        return within(&FROM_162, cc);
+        return from_162(cc);
     }
     if cc.0 < 0x184 {
-        return within(&FROM_173, cc);
+        return from_173(cc);
     }
     if cc.0 < 0x194 {
-        return within(&FROM_184, cc);
+        return from_184(cc);
     }
-    within(&FROM_194, cc)
+    from_194(cc)
 }
 
 // Whether TpmCc has a code.

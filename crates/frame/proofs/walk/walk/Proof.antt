@@ -10,7 +10,7 @@ use Rattle.base.proofs.Answers.{learnt}
 use Rattle.frame.specs.Answer.{handleWidth, saidEntered}
 use Rattle.frame.specs.Walk.{behind}
 use Rattle.frame.proofs.EntryLaws.{entry-inside}
-use Rattle.frame.proofs.Walks.{Found, none-found, one-to-come, one-counted, all-found, one-too-many, entry-refused, one-found}
+use Rattle.frame.proofs.Walks.{Found, none-found, one-to-come, all-found, one-too-many, entry-refused, one-found, with-first, with-second, with-third}
 use borrow.Author.Needs.{needs}
 use Rattle.frame.proofs.walk.walk.Statement.{statement}
 use Rattle.frame.proofs.walk.walk.Tie as tie
@@ -62,26 +62,35 @@ add-at c =
     let short = start .good .1 .0 .0 in
     omega arith
 
-with-requires : tie.Need-with-requires Inv-loop μ-loop
-with-requires c κs =
-    let asked = c .before .before .before .before .before .before in
-    one-to-come (asked .before .before .before .loop .inv) (asked .if1 .left)
-
 loop-less : tie.Need-loop-less Inv-loop μ-loop
-loop-less c =
-    let asked = c .before .before .before .before .before .before .before in
-    let f = asked .before .before .before .loop .inv in
-    let few = one-to-come f (asked .if1 .left) in
-    let one = one-counted f (c .with .ensures) in
-    omega arith
+loop-less c = omega arith
 
 loop-again : tie.Need-loop-again Inv-loop μ-loop
 loop-again c =
-    let asked = c .before .before .before .before .before .before .before in
+    let asked = c .before .before .before .before .before .before .before .before in
     let turn = asked .before .before in
     one-found (turn .before .loop .inv) (turn .loop-test .taken) (asked .if1 .left)
-    (learnt saidEntered (c .before .before .before .before .e2 .given .1) (c .before .before .before .before .before .before .entry .ensures))
-    (c .with .ensures)
+    (learnt saidEntered (c .before .before .before .before .before .e2 .given .1) (c .before .before .before .before .before .before .before .entry .ensures)) (with-first (c .if2 .taken))
+
+loop-less-2 : tie.Need-loop-less-2 Inv-loop μ-loop
+loop-less-2 c = omega arith
+
+loop-again-2 : tie.Need-loop-again-2 Inv-loop μ-loop
+loop-again-2 c =
+    let asked = c .before .before .before .before .before .before .before .before .before .before in
+    let turn = asked .before .before in
+    one-found (turn .before .loop .inv) (turn .loop-test .taken) (asked .if1 .left)
+    (learnt saidEntered (c .before .before .before .before .before .before .before .e2 .given .1) (c .before .before .before .before .before .before .before .before .before .entry .ensures)) (with-second (c .if3 .taken))
+
+loop-less-3 : tie.Need-loop-less-3 Inv-loop μ-loop
+loop-less-3 c = let few = one-to-come (c .before .before .before .before .before .before .before .before .before .before .before .before .before .loop .inv) (c .before .before .before .before .before .before .before .before .before .before .if1 .left) in omega arith
+
+loop-again-3 : tie.Need-loop-again-3 Inv-loop μ-loop
+loop-again-3 c =
+    let asked = c .before .before .before .before .before .before .before .before .before .before in
+    let turn = asked .before .before in
+    one-found (turn .before .loop .inv) (turn .loop-test .taken) (asked .if1 .left)
+    (learnt saidEntered (c .before .before .before .before .before .before .before .e2 .given .1) (c .before .before .before .before .before .before .before .before .before .entry .ensures)) (with-third (c .before .before .if2 .left) (c .if3 .left) (one-to-come (turn .before .loop .inv) (asked .if1 .left)))
 
 returns-3 : tie.Need-returns-3 Inv-loop μ-loop
 returns-3 c = all-found (c .before .loop .inv) (c .loop-test .left)
@@ -101,7 +110,10 @@ walk-spec =
     enum-known-e-2
     cast-at
     add-at
-    with-requires
     loop-less
     loop-again
+    loop-less-2
+    loop-again-2
+    loop-less-3
+    loop-again-3
     returns-3)

@@ -1,0 +1,176 @@
+//! The rows of whole frames: those that TPM software and a TPM wrote, and frames of one shape that show what a check's
+//! time grows with.
+//!
+//! What the Rust needs to have at hand before it can be asked is made outside of the loop: the view for `validate` and
+//! for the areas, the command as a member of `TpmCc`, and the number of a response's handles.
+
+use crate::calls::{self, Out};
+use crate::frame::{known, make, oracle, real};
+use crate::oracle::{give, tell};
+use crate::random::Random;
+use crate::rows::{Side, repeat};
+use std::hint::black_box;
+use std::sync::OnceLock;
+use tpm2_protocol::data::TpmCc;
+use tpm2_protocol::frame::{TpmCommand, TpmResponse};
+
+/// A command and its response, both of which pass.
+pub struct Pair {
+    command: Vec<u8>,
+    response: Vec<u8>,
+}
+
+/// The real ones, read once: a round of calls is short.
+pub fn real() -> &'static [Pair] {
+    static PAIRS: OnceLock<Vec<Pair>> = OnceLock::new();
+    PAIRS.get_or_init(|| {
+        let pairs = real::pairs().into_iter().map(|(command, response)| Pair { command, response });
+        pairs.filter(Pair::passes).collect()
+    })
+}
+
+/// One pair with so many entries and parameter bytes.
+pub fn made(entries: usize, parameters: usize) -> [Pair; 1] {
+    let random = &mut Random::new(1);
+    let row = known::row(0x131).expect("a row");
+    let parameters = vec![0x5A; parameters];
+    let [asked, answered] = [true, false].map(|command| make::entries(command, entries, (32, 32), random).bytes);
+    let command = make::command(&row, Some(&asked), &parameters, random);
+    [Pair { command, response: make::response(&row, Some(&answered), &parameters, random) }]
+}
+
+impl Pair {
+    fn passes(&self) -> bool {
+        let out = &mut [0; 8];
+        oracle::command_validate(&self.command, out) == 0
+            && oracle::response_validate(real::code(&self.command), &self.response, out) == Some(0)
+    }
+
+    fn view(&self) -> &TpmCommand {
+        TpmCommand::cast(&self.command).expect("the command passes")
+    }
+
+    fn answer(&self) -> Answer<'_> {
+        let code = real::code(&self.command);
+        let cc = TpmCc::try_from(code).expect("the code is known");
+        let handles = known::row(code).expect("a row").responses;
+        let view = TpmResponse::cast(&self.response).expect("the response passes");
+        Answer { code, cc, handles, bytes: &self.response, view }
+    }
+}
+
+/// A response, with what is known of its command.
+struct Answer<'a> {
+    code: u32,
+    cc: TpmCc,
+    handles: usize,
+    bytes: &'a [u8],
+    view: &'a TpmResponse,
+}
+
+/// Makes so many calls, on one item after the other.
+fn each<T>(items: &[T], n: u64, call: fn(&T, &mut Out) -> u32) {
+    let call = black_box(call);
+    let mut at = 0;
+    repeat(n, |out| {
+        at = if at + 1 == items.len() { 0 } else { at + 1 };
+        call(black_box(&items[at]), out)
+    });
+}
+
+pub fn command_cast(side: Side, n: u64) {
+    each(
+        &real(),
+        n,
+        match side {
+            Side::Ours => |pair: &Pair, out| calls::command_cast(&pair.command, out),
+            Side::Rust => |pair, out| oracle::command_cast(&pair.command, out),
+            Side::Empty => |_, _| 0,
+        },
+    );
+}
+
+pub fn response_cast(side: Side, n: u64) {
+    each(
+        &real(),
+        n,
+        match side {
+            Side::Ours => |pair: &Pair, out| calls::response_cast(&pair.response, out),
+            Side::Rust => |pair, out| oracle::response_cast(&pair.response, out),
+            Side::Empty => |_, _| 0,
+        },
+    );
+}
+
+pub fn command_validate(side: Side, n: u64, pairs: &[Pair]) {
+    let views: Vec<&TpmCommand> = pairs.iter().map(Pair::view).collect();
+    each(
+        &views,
+        n,
+        match side {
+            Side::Ours => |view: &&TpmCommand, out| calls::command_validate(view.as_bytes(), out),
+            Side::Rust => |view, out| tell(view.validate(), |()| [], out),
+            Side::Empty => |_, _| 0,
+        },
+    );
+}
+
+pub fn response_validate(side: Side, n: u64, pairs: &[Pair]) {
+    let answers: Vec<Answer> = pairs.iter().map(Pair::answer).collect();
+    each(
+        &answers,
+        n,
+        match side {
+            Side::Ours => |answer: &Answer, out| calls::response_validate(answer.code, answer.bytes, out),
+            Side::Rust => |answer, out| tell(answer.view.validate(answer.cc), |()| [], out),
+            Side::Empty => |_, _| 0,
+        },
+    );
+}
+
+/// Handles, authorization area and parameters, of each the length.
+pub fn command_areas(side: Side, n: u64) {
+    let views: Vec<&TpmCommand> = real().iter().map(Pair::view).collect();
+    each(
+        &views,
+        n,
+        match side {
+            Side::Ours => |view: &&TpmCommand, out| {
+                let s = view.as_bytes();
+                calls::command_handles(s, out) | calls::command_auth_area(s, out) | calls::command_parameters(s, out)
+            },
+            Side::Rust => |view, out| {
+                let lengths = || Ok([view.handles()?.len(), view.auth_area()?.len(), view.parameters()?.len()]);
+                tell(lengths(), |lengths| lengths.map(|len| len as u64), out)
+            },
+            Side::Empty => |_, _| 0,
+        },
+    );
+}
+
+pub fn command_parts(side: Side, n: u64) {
+    each(
+        &real(),
+        n,
+        match side {
+            Side::Ours => |pair: &Pair, out| calls::command_parts(&pair.command, black_box(&mut [0; 18]), out),
+            Side::Rust => |pair, out| oracle::command_parts(&pair.command, black_box(&mut [0; 18]), out),
+            Side::Empty => |_, out| give([], black_box(out)),
+        },
+    );
+}
+
+pub fn response_parts(side: Side, n: u64) {
+    let answers: Vec<Answer> = real().iter().map(Pair::answer).collect();
+    each(
+        &answers,
+        n,
+        match side {
+            Side::Ours => |it: &Answer, out| calls::response_parts(it.code, it.bytes, black_box(&mut [0; 18]), out),
+            Side::Rust => {
+                |it, out| oracle::response_parts_of(it.cc, it.handles, it.bytes, black_box(&mut [0; 18]), out)
+            }
+            Side::Empty => |_, out| give([], black_box(out)),
+        },
+    );
+}

@@ -1,0 +1,99 @@
+//! The frame suite: whole commands and responses, their header's fields, their areas, their entries, and the tables that
+//! they are read by.
+//!
+//! The crate judges wherever safe Rust can ask it, read with document 01's limit on sessions and no other change; and
+//! document 01's rules, written out, judge everything.
+
+mod call;
+mod desk;
+mod inputs;
+mod known;
+#[cfg(oracle)]
+mod limit;
+mod listed;
+mod make;
+#[cfg(oracle)]
+pub mod oracle;
+pub mod real;
+mod rules;
+
+pub use call::{Call, Kind, named};
+pub use desk::Desk;
+pub use listed::list;
+
+use crate::answer::{Answer, Hex};
+use crate::judge::{Case, Judge, Tally};
+use crate::random::Random;
+use crate::shrink;
+use std::fmt;
+
+/// A call with its input.
+#[derive(Clone)]
+pub struct Frame {
+    pub call: &'static Call,
+    pub bytes: Vec<u8>,
+    /// 0 for a call that takes none.
+    pub number: u32,
+}
+
+/// `NAME BYTES NUMBER -`, with `-` for no bytes and for no number.
+impl fmt::Display for Frame {
+    fn fmt(&self, f: &mut fmt::Formatter) -> fmt::Result {
+        write!(f, "{} {} ", self.call.name, Hex(&self.bytes))?;
+        if self.call.numbered { write!(f, "{} -", self.number) } else { write!(f, "- -") }
+    }
+}
+
+impl Case for Frame {
+    const JUDGES: &'static [Judge<Self>] = &[
+        #[cfg(oracle)]
+        Judge { name: "tpm2-protocol", says: by_crate },
+        Judge { name: "document 01", says: by_document },
+    ];
+
+    fn preset(&self, answer: &mut Answer) {
+        answer.preset([&self.bytes]);
+    }
+
+    fn ours(&self, answer: &mut Answer) {
+        answer.try_call_with_entries(|s, entries, out| Some((self.call.ours)(s, self.number, entries, out)));
+    }
+
+    fn simpler(&self) -> impl Iterator<Item = Self> {
+        let as_given = shrink::bytes(&self.bytes);
+        let resized = shrink::bytes(&self.bytes).flat_map(|bytes| make::resized(&self.bytes, bytes));
+        let bytes = as_given.chain(resized).chain(make::emptied(&self.bytes)).map(|bytes| Self { bytes, ..*self });
+        let numbers = shrink::numbers(self.number.into()).map(|n| Self { number: n as u32, ..self.clone() });
+        bytes.chain(numbers)
+    }
+}
+
+#[cfg(oracle)]
+fn by_crate(case: &Frame, answer: &mut Answer) -> bool {
+    answer.try_call_with_entries(|s, entries, out| (case.call.theirs)(s, case.number, entries, out))
+}
+
+/// It speaks about every input.
+fn by_document(case: &Frame, answer: &mut Answer) -> bool {
+    answer.try_call_with_entries(|s, entries, out| Some((case.call.rules)(s, case.number, entries, out)))
+}
+
+pub fn run(random: &mut Random, thin: bool) -> Vec<Tally> {
+    #[cfg(oracle)]
+    let before = limit::explained();
+    let mut desk = Desk::new();
+    inputs::each(&mut desk, random, thin);
+    #[cfg(oracle)]
+    tell_explained(limit::explained() - before, &mut desk);
+    desk.done()
+}
+
+/// Tells how many of the crate's answers were read with document 01's limit on sessions. There must be some: else nothing
+/// shows that the difference is there. That it is the only one, the tallies show.
+#[cfg(oracle)]
+fn tell_explained(count: u64, desk: &mut Desk) {
+    println!("frame: {count} answers of tpm2-protocol are explained by its limit of eight sessions, not three (D1)");
+    if count == 0 {
+        desk.tally(named("command_validate")).differs_in_all("no answer differs by the limit on sessions");
+    }
+}

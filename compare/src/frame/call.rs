@@ -1,0 +1,265 @@
+//! The calls on frames, each with what document 01 and the crate say in its place, all in one shape.
+
+use super::rules;
+use crate::calls::{self, Entries, Out};
+
+#[cfg(oracle)]
+use super::{limit, oracle};
+
+/// What a call is about: the calls of a kind are asked together.
+#[derive(Clone, Copy, PartialEq)]
+pub enum Kind {
+    /// Reads no bytes.
+    Table,
+    /// Reads what commands and responses share.
+    Header,
+    Command,
+    Response,
+    /// Writes a field.
+    Setter,
+}
+
+/// Takes the bytes, a number, and both arrays; a call leaves alone what it has no use for.
+type Shape<T> = fn(&mut [u8], u32, &mut Entries, &mut Out) -> T;
+
+pub struct Call {
+    pub name: &'static str,
+    pub kind: Kind,
+    /// Whether it takes a number: a command code, a tag, a code to write.
+    pub numbered: bool,
+    pub ours: Shape<u32>,
+    pub rules: Shape<u32>,
+    /// None where the crate cannot be asked.
+    #[cfg(oracle)]
+    pub theirs: Shape<Option<u32>>,
+}
+
+impl Call {
+    pub fn writes(&self) -> bool {
+        self.kind == Kind::Setter
+    }
+}
+
+/// Where the call of a name stands among all.
+pub fn named(name: &str) -> usize {
+    CALLS.iter().position(|call| call.name == name).expect("the call is there")
+}
+
+pub static CALLS: [Call; 24] = [
+    Call {
+        name: "table_find",
+        kind: Kind::Table,
+        numbered: true,
+        ours: |_, n, _, out| calls::table_find(n, out),
+        rules: |_, n, _, out| rules::table_find(n, out),
+        #[cfg(oracle)]
+        theirs: |_, n, _, out| Some(oracle::table_find(n, out)),
+    },
+    Call {
+        name: "table_known",
+        kind: Kind::Table,
+        numbered: true,
+        ours: |_, n, _, out| calls::table_known(n, out),
+        rules: |_, n, _, out| rules::table_known(n, out),
+        #[cfg(oracle)]
+        theirs: |_, n, _, out| Some(oracle::table_known(n, out)),
+    },
+    Call {
+        name: "tag_known",
+        kind: Kind::Table,
+        numbered: true,
+        ours: |_, n, _, out| calls::tag_known(n as u16, out),
+        rules: |_, n, _, out| rules::tag_known(n as u16, out),
+        #[cfg(oracle)]
+        theirs: |_, n, _, out| Some(oracle::tag_known(n as u16, out)),
+    },
+    Call {
+        name: "frame_tag",
+        kind: Kind::Header,
+        numbered: false,
+        ours: |s, _, _, out| calls::frame_tag(s, out),
+        rules: |s, _, _, out| rules::frame_tag(s, out),
+        #[cfg(oracle)]
+        theirs: |s, _, _, out| oracle::frame_tag(s, out),
+    },
+    Call {
+        name: "frame_size",
+        kind: Kind::Header,
+        numbered: false,
+        ours: |s, _, _, out| calls::frame_size(s, out),
+        rules: |s, _, _, out| rules::frame_size(s, out),
+        #[cfg(oracle)]
+        theirs: |s, _, _, out| oracle::frame_size(s, out),
+    },
+    Call {
+        name: "frame_len",
+        kind: Kind::Header,
+        numbered: false,
+        ours: |s, _, _, out| calls::frame_len(s, out),
+        rules: |s, _, _, out| rules::frame_len(s, out),
+        #[cfg(oracle)]
+        theirs: |s, _, _, out| oracle::frame_len(s, out),
+    },
+    Call {
+        name: "frame_is_empty",
+        kind: Kind::Header,
+        numbered: false,
+        ours: |s, _, _, out| calls::frame_is_empty(s, out),
+        rules: |s, _, _, out| rules::frame_is_empty(s, out),
+        #[cfg(oracle)]
+        theirs: |s, _, _, out| oracle::frame_is_empty(s, out),
+    },
+    Call {
+        name: "command_cast",
+        kind: Kind::Command,
+        numbered: false,
+        ours: |s, _, _, out| calls::command_cast(s, out),
+        rules: |s, _, _, out| rules::command_cast(s, out),
+        #[cfg(oracle)]
+        theirs: |s, _, _, out| Some(oracle::command_cast(s, out)),
+    },
+    Call {
+        name: "command_cast_prefix",
+        kind: Kind::Command,
+        numbered: false,
+        ours: |s, _, _, out| calls::command_cast_prefix(s, out),
+        rules: |s, _, _, out| rules::command_cast_prefix(s, out),
+        #[cfg(oracle)]
+        theirs: |s, _, _, out| Some(oracle::command_cast_prefix(s, out)),
+    },
+    Call {
+        name: "command_validate",
+        kind: Kind::Command,
+        numbered: false,
+        ours: |s, _, _, out| calls::command_validate(s, out),
+        rules: |s, _, _, out| rules::command_validate(s, out),
+        #[cfg(oracle)]
+        theirs: |s, _, entries, out| Some(limit::command_validate(s, entries, out)),
+    },
+    Call {
+        name: "command_parts",
+        kind: Kind::Command,
+        numbered: false,
+        ours: |s, _, entries, out| calls::command_parts(s, entries, out),
+        rules: |s, _, entries, out| rules::command_parts(s, entries, out),
+        #[cfg(oracle)]
+        theirs: |s, _, entries, out| Some(limit::command_parts(s, entries, out)),
+    },
+    Call {
+        name: "command_cc",
+        kind: Kind::Command,
+        numbered: false,
+        ours: |s, _, _, out| calls::command_cc(s, out),
+        rules: |s, _, _, out| rules::command_cc(s, out),
+        #[cfg(oracle)]
+        theirs: |s, _, _, out| oracle::command_cc(s, out),
+    },
+    Call {
+        name: "command_handles",
+        kind: Kind::Command,
+        numbered: false,
+        ours: |s, _, _, out| calls::command_handles(s, out),
+        rules: |s, _, _, out| rules::command_handles(s, out),
+        #[cfg(oracle)]
+        theirs: |s, _, _, out| oracle::command_handles(s, out),
+    },
+    Call {
+        name: "command_auth_area",
+        kind: Kind::Command,
+        numbered: false,
+        ours: |s, _, _, out| calls::command_auth_area(s, out),
+        rules: |s, _, _, out| rules::command_auth_area(s, out),
+        #[cfg(oracle)]
+        theirs: |s, _, _, out| oracle::command_auth_area(s, out),
+    },
+    Call {
+        name: "command_parameters",
+        kind: Kind::Command,
+        numbered: false,
+        ours: |s, _, _, out| calls::command_parameters(s, out),
+        rules: |s, _, _, out| rules::command_parameters(s, out),
+        #[cfg(oracle)]
+        theirs: |s, _, _, out| oracle::command_parameters(s, out),
+    },
+    Call {
+        name: "response_cast",
+        kind: Kind::Response,
+        numbered: false,
+        ours: |s, _, _, out| calls::response_cast(s, out),
+        rules: |s, _, _, out| rules::response_cast(s, out),
+        #[cfg(oracle)]
+        theirs: |s, _, _, out| Some(oracle::response_cast(s, out)),
+    },
+    Call {
+        name: "response_cast_prefix",
+        kind: Kind::Response,
+        numbered: false,
+        ours: |s, _, _, out| calls::response_cast_prefix(s, out),
+        rules: |s, _, _, out| rules::response_cast_prefix(s, out),
+        #[cfg(oracle)]
+        theirs: |s, _, _, out| Some(oracle::response_cast_prefix(s, out)),
+    },
+    Call {
+        name: "response_validate",
+        kind: Kind::Response,
+        numbered: true,
+        ours: |s, cc, _, out| calls::response_validate(cc, s, out),
+        rules: |s, cc, _, out| rules::response_validate(cc, s, out),
+        #[cfg(oracle)]
+        theirs: |s, cc, entries, out| limit::response_validate(cc, s, entries, out),
+    },
+    Call {
+        name: "response_parts",
+        kind: Kind::Response,
+        numbered: true,
+        ours: |s, cc, entries, out| calls::response_parts(cc, s, entries, out),
+        rules: |s, cc, entries, out| rules::response_parts(cc, s, entries, out),
+        #[cfg(oracle)]
+        theirs: |s, cc, entries, out| limit::response_parts(cc, s, entries, out),
+    },
+    Call {
+        name: "response_rc",
+        kind: Kind::Response,
+        numbered: false,
+        ours: |s, _, _, out| calls::response_rc(s, out),
+        rules: |s, _, _, out| rules::response_rc(s, out),
+        #[cfg(oracle)]
+        theirs: |s, _, _, out| oracle::response_rc(s, out),
+    },
+    Call {
+        name: "response_body",
+        kind: Kind::Response,
+        numbered: false,
+        ours: |s, _, _, out| calls::response_body(s, out),
+        rules: |s, _, _, out| rules::response_body(s, out),
+        #[cfg(oracle)]
+        theirs: |s, _, _, out| oracle::response_body(s, out),
+    },
+    Call {
+        name: "frame_set_tag",
+        kind: Kind::Setter,
+        numbered: true,
+        ours: |s, n, _, out| calls::frame_set_tag(s, n as u16, out),
+        rules: |s, n, _, out| rules::frame_set_tag(s, n as u16, out),
+        #[cfg(oracle)]
+        theirs: |s, n, _, out| oracle::frame_set_tag(s, n as u16, out),
+    },
+    Call {
+        name: "command_set_cc",
+        kind: Kind::Setter,
+        numbered: true,
+        ours: |s, n, _, out| calls::command_set_cc(s, n, out),
+        rules: |s, n, _, out| rules::command_set_cc(s, n, out),
+        #[cfg(oracle)]
+        theirs: |s, n, _, out| oracle::command_set_cc(s, n, out),
+    },
+    Call {
+        name: "response_set_rc",
+        kind: Kind::Setter,
+        numbered: true,
+        ours: |s, n, _, out| calls::response_set_rc(s, n, out),
+        rules: |s, n, _, out| rules::response_set_rc(s, n, out),
+        #[cfg(oracle)]
+        theirs: |s, n, _, out| oracle::response_set_rc(s, n, out),
+    },
+];

@@ -1,0 +1,91 @@
+//! Where the calls are made: one case that is changed in place, and a tally a call.
+
+use super::call::{CALLS, Kind, named};
+use super::{Frame, known};
+use crate::judge::Tally;
+use crate::random::Random;
+
+pub struct Desk {
+    case: Frame,
+    /// One for each call, in the calls' order.
+    tallies: Vec<Tally>,
+    setters: [usize; 3],
+}
+
+/// The numbers that the calls on some bytes are given, where they take one.
+#[derive(Clone, Copy)]
+pub struct Numbers {
+    /// The code of the command that a response answers.
+    pub cc: u32,
+    /// What the setters write: a tag, a command code, a response code.
+    pub set: [u32; 3],
+}
+
+impl Numbers {
+    /// A command code, and for the setters numbers of which some are refused.
+    pub fn random(random: &mut Random) -> Self {
+        let [cc, set_cc] = [(); 2].map(|()| 0x11E + random.number() as u32 % 0x85);
+        let tag = if random.byte() < 128 { random.pick(&known::TAGS) } else { random.number() as u16 };
+        Self { cc, set: [tag.into(), set_cc, random.number() as u32 % 0x1000] }
+    }
+}
+
+impl Desk {
+    pub fn new() -> Self {
+        Self {
+            case: Frame { call: &CALLS[0], bytes: Vec::new(), number: 0 },
+            tallies: CALLS.iter().map(|call| Tally::new::<Frame>(call.name)).collect(),
+            setters: ["frame_set_tag", "command_set_cc", "response_set_rc"].map(named),
+        }
+    }
+
+    /// Lays bytes on the desk: all calls are made on them until others come.
+    pub fn lay(&mut self, bytes: &[u8]) {
+        self.case.bytes.clear();
+        self.case.bytes.extend_from_slice(bytes);
+    }
+
+    /// The bytes on the desk, to be changed in place.
+    pub fn bytes(&mut self) -> &mut Vec<u8> {
+        &mut self.case.bytes
+    }
+
+    /// Makes a call, with the number if it takes one.
+    pub fn ask(&mut self, call: usize, number: u32) {
+        self.case.call = &CALLS[call];
+        self.case.number = if self.case.call.numbered { number } else { 0 };
+        self.tallies[call].check(&self.case);
+    }
+
+    /// Makes every call of a kind; those that take a number take this one.
+    pub fn ask_kind(&mut self, kind: Kind, number: u32) {
+        for (at, call) in CALLS.iter().enumerate() {
+            if call.kind == kind {
+                self.ask(at, number);
+            }
+        }
+    }
+
+    pub fn ask_setters(&mut self, numbers: [u32; 3]) {
+        for (setter, number) in self.setters.into_iter().zip(numbers) {
+            self.ask(setter, number);
+        }
+    }
+
+    /// Makes every call that takes bytes.
+    pub fn ask_all(&mut self, numbers: Numbers) {
+        self.ask_kind(Kind::Header, 0);
+        self.ask_kind(Kind::Command, 0);
+        self.ask_kind(Kind::Response, numbers.cc);
+        self.ask_setters(numbers.set);
+    }
+
+    pub fn tally(&mut self, call: usize) -> &mut Tally {
+        &mut self.tallies[call]
+    }
+
+    /// The counts of the calls that were made.
+    pub fn done(self) -> Vec<Tally> {
+        self.tallies.into_iter().filter(|tally| tally.calls() > 0).collect()
+    }
+}

@@ -1,0 +1,237 @@
+//! Document 01's order of checks, written out. It has an answer for every input, also where the crate has none.
+//!
+//! Each public function has the shape of our call: what is lent goes in, the number comes out, the arrays take the rest.
+
+mod parts;
+
+pub use parts::{command_parts, command_validate, response_parts, response_validate};
+
+use super::known::{self, Row};
+use crate::calls::Out;
+
+/// A refusal: its number and its fields, of which 1 and 6 have three and the others two.
+struct Refusal(u32, [usize; 3]);
+
+type Read<T> = Result<T, Refusal>;
+
+fn ends(offset: usize, needed: usize, available: usize) -> Refusal {
+    Refusal(1, [offset, needed, available])
+}
+
+fn refusal(number: u32, offset: usize, value: usize) -> Refusal {
+    Refusal(number, [offset, value, 0])
+}
+
+/// The answer with its numbers, or the refusal with its fields.
+fn tell<T, const N: usize>(read: Read<T>, values: impl FnOnce(T) -> [usize; N], out: &mut Out) -> u32 {
+    match read {
+        Ok(answer) => put(0, &values(answer), out),
+        Err(Refusal(number @ (1 | 6), fields)) => put(number, &fields, out),
+        Err(Refusal(number, fields)) => put(number, &fields[..2], out),
+    }
+}
+
+fn put(number: u32, values: &[usize], out: &mut Out) -> u32 {
+    out.iter_mut().zip(values).for_each(|(place, &value)| *place = value as u64);
+    number
+}
+
+const HEADER: usize = 10;
+const PLAIN: usize = 0x8001;
+const SESSIONS: usize = 0x8002;
+
+/// The number of `width` bytes at a place where they are known to be.
+fn number(s: &[u8], at: usize, width: usize) -> usize {
+    s[at..at + width].iter().fold(0, |n, &byte| n << 8 | usize::from(byte))
+}
+
+fn tag_field(s: &[u8]) -> usize {
+    number(s, 0, 2)
+}
+
+fn code_field(s: &[u8]) -> u32 {
+    number(s, 6, 4) as u32
+}
+
+// ---- the table
+
+pub fn table_find(code: u32, out: &mut Out) -> u32 {
+    tell(row_of(code), |row| [row.handles, row.responses], out)
+}
+
+pub fn table_known(code: u32, out: &mut Out) -> u32 {
+    put(0, &[known::row(code).is_some().into()], out)
+}
+
+pub fn tag_known(tag: u16, out: &mut Out) -> u32 {
+    put(0, &[known::is_tag(tag).into()], out)
+}
+
+fn row_of(code: u32) -> Read<Row> {
+    known::row(code).ok_or(refusal(4, 0, code as usize))
+}
+
+// ---- fields
+
+/// What every field read and setter, area read and `body` asks first.
+fn header(s: &[u8]) -> Read<()> {
+    if s.len() < HEADER { Err(ends(0, HEADER, s.len())) } else { Ok(()) }
+}
+
+/// A tag that `TpmSt` has.
+fn known_tag(tag: usize) -> Read<usize> {
+    if known::is_tag(tag as u16) { Ok(tag) } else { Err(refusal(3, 0, tag)) }
+}
+
+/// A code that `TpmCc` has. Each has a row, so a code that is known but has none does not occur.
+fn known_code(code: u32) -> Read<Row> {
+    known::row(code).ok_or(refusal(4, 6, code as usize))
+}
+
+fn readable(offset: usize, code: u32) -> Read<u32> {
+    if known::reads(code) { Ok(code) } else { Err(refusal(5, offset, code as usize)) }
+}
+
+pub fn frame_tag(s: &[u8], out: &mut Out) -> u32 {
+    let tag = header(s).and_then(|()| known_tag(tag_field(s)));
+    tell(tag, |tag| [tag], out)
+}
+
+pub fn frame_size(s: &[u8], out: &mut Out) -> u32 {
+    tell(header(s), |()| [number(s, 2, 4)], out)
+}
+
+pub fn frame_len(s: &[u8], out: &mut Out) -> u32 {
+    put(0, &[s.len()], out)
+}
+
+pub fn frame_is_empty(s: &[u8], out: &mut Out) -> u32 {
+    put(0, &[s.is_empty().into()], out)
+}
+
+pub fn command_cc(s: &[u8], out: &mut Out) -> u32 {
+    let row = header(s).and_then(|()| known_code(code_field(s)));
+    tell(row, |row| [row.code as usize], out)
+}
+
+pub fn response_rc(s: &[u8], out: &mut Out) -> u32 {
+    let code = header(s).and_then(|()| readable(6, code_field(s)));
+    tell(code, |code| [code as usize], out)
+}
+
+pub fn frame_set_tag(s: &mut [u8], tag: u16, out: &mut Out) -> u32 {
+    let set = header(s).and_then(|()| known_tag(tag.into()));
+    tell(set.map(|_| s[..2].copy_from_slice(&tag.to_be_bytes())), |()| [], out)
+}
+
+pub fn command_set_cc(s: &mut [u8], code: u32, out: &mut Out) -> u32 {
+    let set = header(s).and_then(|()| row_of(code));
+    tell(set.map(|_| s[6..10].copy_from_slice(&code.to_be_bytes())), |()| [], out)
+}
+
+pub fn response_set_rc(s: &mut [u8], code: u32, out: &mut Out) -> u32 {
+    let set = header(s).and_then(|()| readable(0, code));
+    tell(set.map(|_| s[6..10].copy_from_slice(&code.to_be_bytes())), |()| [], out)
+}
+
+// ---- envelope and areas
+
+/// The frame at the start, and whatever is behind it.
+fn prefix(s: &[u8]) -> Read<(&[u8], &[u8])> {
+    header(s)?;
+    let size = number(s, 2, 4);
+    if size < HEADER {
+        return Err(ends(2, HEADER, size));
+    }
+    s.split_at_checked(size).ok_or(ends(s.len(), size - s.len().min(size), 0))
+}
+
+/// The tag, one of the two.
+fn frame_tag_of(frame: &[u8]) -> Read<usize> {
+    match tag_field(frame) {
+        tag @ (PLAIN | SESSIONS) => Ok(tag),
+        tag => Err(refusal(3, 0, tag)),
+    }
+}
+
+fn nothing_behind<'a>((frame, tail): (&'a [u8], &[u8])) -> Read<&'a [u8]> {
+    if tail.is_empty() { Ok(frame) } else { Err(refusal(2, frame.len(), tail.len())) }
+}
+
+/// Where so many handles end.
+fn handles_end(s: &[u8], handles: usize) -> Read<usize> {
+    let (needed, left) = (4 * handles, s.len() - HEADER);
+    if left < needed { Err(ends(HEADER, needed, left)) } else { Ok(HEADER + needed) }
+}
+
+/// The bytes whose 4-byte size stands at a place: where they start and end.
+fn sized(s: &[u8], at: usize) -> Read<(usize, usize)> {
+    let left = s.len() - at;
+    if left < 4 {
+        return Err(ends(at, 4, left));
+    }
+    let size = number(s, at, 4);
+    if left - 4 < size { Err(ends(at + 4, size, left - 4)) } else { Ok((at + 4, at + 4 + size)) }
+}
+
+/// Where the handles of a command end. All bytes are taken, whatever the size field says.
+fn command_handles_end(s: &[u8]) -> Read<usize> {
+    header(s)?;
+    handles_end(s, known_code(code_field(s))?.handles)
+}
+
+/// Where a command's handles end, and where its authorization area starts and ends.
+fn command_areas(s: &[u8]) -> Read<(usize, usize, usize)> {
+    let handles = command_handles_end(s)?;
+    if known_tag(tag_field(s))? != SESSIONS {
+        return Ok((handles, handles, handles));
+    }
+    let (from, to) = sized(s, handles)?;
+    Ok((handles, from, to))
+}
+
+pub fn command_handles(s: &[u8], out: &mut Out) -> u32 {
+    tell(command_handles_end(s), |end| [HEADER, end], out)
+}
+
+pub fn command_auth_area(s: &[u8], out: &mut Out) -> u32 {
+    tell(command_areas(s), |(_, from, to)| [from, to], out)
+}
+
+pub fn command_parameters(s: &[u8], out: &mut Out) -> u32 {
+    tell(command_areas(s), |(_, _, to)| [to, s.len()], out)
+}
+
+pub fn response_body(s: &[u8], out: &mut Out) -> u32 {
+    tell(header(s), |()| [HEADER, s.len()], out)
+}
+
+// ---- casts
+
+fn command_judged(frame: &[u8]) -> Read<usize> {
+    frame_tag_of(frame)?;
+    command_areas(frame)?;
+    Ok(frame.len())
+}
+
+fn response_judged(frame: &[u8]) -> Read<usize> {
+    frame_tag_of(frame)?;
+    readable(6, code_field(frame))?;
+    Ok(frame.len())
+}
+
+pub fn command_cast(s: &[u8], out: &mut Out) -> u32 {
+    tell(prefix(s).and_then(nothing_behind).and_then(command_judged), |n| [0, n], out)
+}
+
+pub fn command_cast_prefix(s: &[u8], out: &mut Out) -> u32 {
+    tell(prefix(s).and_then(|(frame, _)| command_judged(frame)), |n| [0, n, n, s.len()], out)
+}
+
+pub fn response_cast(s: &[u8], out: &mut Out) -> u32 {
+    tell(prefix(s).and_then(nothing_behind).and_then(response_judged), |n| [0, n], out)
+}
+
+pub fn response_cast_prefix(s: &[u8], out: &mut Out) -> u32 {
+    tell(prefix(s).and_then(|(frame, _)| response_judged(frame)), |n| [0, n, n, s.len()], out)
+}

@@ -1,0 +1,105 @@
+//! The traffic suite: frames as TPM software and a TPM wrote them, and frames that other projects publish in their tests.
+//! They are not part of the repository: SKEIN_TRAFFIC names the folder that has them, else it is ../shared/facts beside
+//! the repository. A response is judged for the code of the command that it answers.
+
+mod published;
+
+use crate::calls;
+use crate::frame::{Desk, Kind, named, real};
+use crate::judge::Tally;
+use std::collections::BTreeMap;
+use std::fs;
+use std::path::{Path, PathBuf};
+
+/// How many frames there were, and how many of them came to each number; 0 is a frame that passes.
+#[derive(Default)]
+struct Count(BTreeMap<u32, u64>);
+
+impl Count {
+    fn add(&mut self, number: u32) {
+        *self.0.entry(number).or_default() += 1;
+    }
+
+    fn tell(&self, what: &str) {
+        let all: u64 = self.0.values().sum();
+        let passing = self.0.get(&0).unwrap_or(&0);
+        print!("traffic: {all} {what}, {passing} pass");
+        let refused = self.0.iter().filter(|&(&number, _)| number != 0);
+        refused.for_each(|(number, times)| print!(", {times} are refused by {number}"));
+        println!();
+    }
+}
+
+/// The folder, where there is one. A folder that was asked for must be there.
+fn folder() -> Option<PathBuf> {
+    if let Some(asked) = std::env::var_os("SKEIN_TRAFFIC") {
+        let folder = PathBuf::from(asked);
+        if !folder.is_dir() {
+            eprintln!("compare: SKEIN_TRAFFIC is {}, which is no folder", folder.display());
+            std::process::exit(2);
+        }
+        return Some(folder);
+    }
+    // this file is compare/src/traffic.rs
+    let beside = Path::new(file!()).ancestors().nth(4)?.join("shared/facts");
+    beside.is_dir().then_some(beside)
+}
+
+pub fn run() -> Vec<Tally> {
+    let Some(folder) = folder() else {
+        println!("traffic: left out, since SKEIN_TRAFFIC is not set and ../shared/facts is not there");
+        return Vec::new();
+    };
+    let mut desk = Desk::new();
+    traces(&mut desk, &folder.join("traces"));
+    published::check(&mut desk, &folder.join("published-frames.csv"));
+    desk.done()
+}
+
+/// A line of a trace: a command and its response, in hexadecimal.
+fn traces(desk: &mut Desk, folder: &Path) {
+    let (mut commands, mut responses) = (Count::default(), Count::default());
+    for file in texts(folder) {
+        let text = read(&file);
+        for line in text.lines() {
+            let pair = real::pair(line);
+            let (command, response) = pair.unwrap_or_else(|| panic!("a line of {} is no pair", file.display()));
+            commands.add(ask_command(desk, &command));
+            responses.add(ask_response(desk, real::code(&command), &response));
+            // as they follow each other on a bus
+            desk.lay(&[command, response].concat());
+            desk.ask(named("command_cast_prefix"), 0);
+        }
+    }
+    commands.tell("commands");
+    responses.tell("responses");
+}
+
+/// The trace files by name.
+fn texts(folder: &Path) -> Vec<PathBuf> {
+    let entries = fs::read_dir(folder).unwrap_or_else(|error| panic!("{}: {error}", folder.display()));
+    let paths = entries.map(|entry| entry.expect("a file has a name").path());
+    let mut texts: Vec<PathBuf> = paths.filter(|path| path.extension().is_some_and(|end| end == "txt")).collect();
+    texts.sort();
+    texts
+}
+
+fn read(file: &Path) -> String {
+    fs::read_to_string(file).unwrap_or_else(|error| panic!("{}: {error}", file.display()))
+}
+
+/// Makes all calls on a command, and gives the number of its full check.
+fn ask_command(desk: &mut Desk, frame: &[u8]) -> u32 {
+    desk.lay(frame);
+    desk.ask_kind(Kind::Header, 0);
+    desk.ask_kind(Kind::Command, 0);
+    calls::command_validate(frame, &mut [0; 8])
+}
+
+/// The same of a response to the command of a code.
+fn ask_response(desk: &mut Desk, cc: u32, frame: &[u8]) -> u32 {
+    desk.lay(frame);
+    desk.ask_kind(Kind::Header, 0);
+    desk.ask_kind(Kind::Response, cc);
+    calls::response_validate(cc, frame, &mut [0; 8])
+}

@@ -1,0 +1,96 @@
+//! Frames that other projects publish, in a table of kind, bytes, source, what it is, and what document 01 says of it.
+//! The last column is text for readers: it must be what our own answer becomes when it is told in those words.
+
+use super::{ask_command, ask_response, read};
+use crate::calls::{self, Out};
+use crate::frame::{Desk, named, real};
+use std::path::Path;
+
+pub fn check(desk: &mut Desk, file: &Path) {
+    let text = read(file);
+    let (mut held, mut differ) = (0, 0);
+    for row in text.lines().skip(1).map(fields) {
+        let [kind, hex, _, what, result] = row.as_slice() else {
+            panic!("a row of {} has no five columns: {row:?}", file.display());
+        };
+        let frame = real::unhex(hex).expect("the bytes are in hexadecimal");
+        let ours = if kind.ends_with("command") { command(desk, &frame) } else { response(desk, &frame, what) };
+        held += 1;
+        if ours != result.trim_end() {
+            differ += 1;
+            let call = named(if kind.ends_with("command") { "command_parts" } else { "response_parts" });
+            desk.tally(call).differs_in_all(&format!("{hex}: '{ours}', and published is '{result}'"));
+        }
+    }
+    println!("traffic: {held} published frames, each held to its published result, {differ} differ");
+}
+
+/// The columns of a row. A column in quotes may hold commas, and a quote in it is doubled.
+fn fields(row: &str) -> Vec<String> {
+    let (mut fields, mut quoted) = (vec![String::new()], false);
+    let mut marks = row.chars().peekable();
+    while let Some(mark) = marks.next() {
+        match mark {
+            '"' if quoted && marks.next_if_eq(&'"').is_some() => fields.last_mut().expect("a column").push('"'),
+            '"' => quoted = !quoted,
+            ',' if !quoted => fields.push(String::new()),
+            _ => fields.last_mut().expect("a column").push(mark),
+        }
+    }
+    fields
+}
+
+fn command(desk: &mut Desk, frame: &[u8]) -> String {
+    ask_command(desk, frame);
+    let mut out = [0; 8];
+    match calls::command_parts(frame, &mut [0; 18], &mut out) {
+        0 => {
+            let [_, _, handles, from, to, parameters, end, count] = out;
+            let entries = if count == 0 { "no entries".into() } else { format!("{count} entries {from}..{to}") };
+            format!("passes; handles 10..{handles}, {entries}, parameters {parameters}..{end}")
+        }
+        number => refusal(number, &out),
+    }
+}
+
+fn response(desk: &mut Desk, frame: &[u8], what: &str) -> String {
+    let cc = answered(what);
+    ask_response(desk, cc, frame);
+    let mut out = [0; 8];
+    match calls::response_parts(cc, frame, &mut [0; 18], &mut out) {
+        0 if out[1] != 0 => error_code(out[1] as u32),
+        0 => {
+            let [_, _, handles, parameters, end, from, to, count] = out;
+            let entries = if count == 0 { String::new() } else { format!(", {count} entries {from}..{to}") };
+            format!("passes; handles 10..{handles}, parameters {parameters}..{end}{entries}")
+        }
+        number => refusal(number, &out),
+    }
+}
+
+/// The code that is named behind the word `for`; 0 where none is, which only a frame does that no cast lets through.
+fn answered(what: &str) -> u32 {
+    let behind = what.split_once("for ").and_then(|(_, behind)| behind.split_once("0x"));
+    let digits = |text: &str| text.chars().take_while(char::is_ascii_hexdigit).collect::<String>();
+    behind.map_or(0, |(_, code)| u32::from_str_radix(&digits(code), 16).expect("a code is named"))
+}
+
+fn refusal(number: u32, out: &Out) -> String {
+    let fields = if matches!(number, 1 | 6) { 3 } else { 2 };
+    let fields: Vec<String> = out[..fields].iter().map(u64::to_string).collect();
+    format!("{number}({})", fields.join(","))
+}
+
+fn error_code(code: u32) -> String {
+    let mut out = [0; 8];
+    calls::rc_read(code, &mut out);
+    let [kind, base, index, ..] = out;
+    let kinds = ["fmt0", "warn", "fmt1", "fmt1", "fmt1", "fmt1"];
+    let index = match kind {
+        3 => format!(" parameter {index}"),
+        4 => format!(" handle {index}"),
+        5 => format!(" session {index}"),
+        _ => String::new(),
+    };
+    format!("passes; {} base 0x{base:X}{index}", kinds[kind as usize])
+}
