@@ -26,9 +26,9 @@ use Rattle.frame.specs.Command.{Division, commandHandles, commandAreas, 
 use Rattle.frame.specs.Header.{tagOf, codeOf, sessions, plain, header, readCc, readRc, framePrefix, frameWhole, readFrameTag}
 use Rattle.frame.specs.Response.{judgeResponse, castResponse, castResponsePrefix, errorAreas, successAreas, responseAreas, readResponse}
 use Rattle.frame.specs.Walk.{walk, byValue}
-use Rattle.frame.proofs.FrameLaws.{sized-order}
+use Rattle.frame.proofs.FrameLaws.{sized-order, two-tags}
 use Rattle.frame.proofs.Walks.{field-there}
-use Rattle.frame.proofs.Headers.{short-header, has-header, prefix-fits, whole-fits}
+use Rattle.frame.proofs.Headers.{frame-tag-is, whole-fits}
 
 -- ---- the areas
 
@@ -103,6 +103,14 @@ module _ (rows : List Row) (known : List ℕ) (s : List ℕ) where
     areas-sized {n} is member =
         rw is (passes (isIn (tagOf s) tags) _ (sizedArea (eqb (tagOf s) sessions) p s p) (rw (← is) member))
         ∙ goes-on (commandHandles rows known s) _ e
+
+  -- a tag of the two is known, so the areas go on from the handles
+  pub judged-sized : {tag p : ℕ} → gives tag ≡ readFrameTag s → gives p ≡ commandHandles rows known s
+      → sizedArea (eqb tag sessions) p s p ≡ judgeCommand rows known s
+  unfolding judgeCommand
+  judged-sized read handles =
+      let of = frame-tag-is s read in
+      areas-sized handles (of .0) (two-tags _ (of .1)) ∙ goes-on (readFrameTag s) _ read
 
   pub areas-fit : {a : Areas} → gives a ≡ commandAreas rows known s
       → (10 ≤ length s) × (10 ≤ a .handles) × (a .handles ≤ a .from) × (a .from ≤ a .to) × (a .to ≤ length s)

@@ -12,11 +12,13 @@ use lib.Dec.{eqb, leb}
 use lib.ListN.{length, length-append}
 use Rattle.base.specs.Bytes.{AreBytes, bytes}
 use Rattle.base.specs.Field.{readField}
+use Rattle.base.specs.Members.{isIn}
 use Rattle.base.specs.Said.{gives}
 use Rattle.base.proofs.Bytes.{length-bytes}
 use Rattle.base.proofs.Checks.{needs-gives, then-gives, gives-injective}
 use Rattle.base.proofs.Places.{At, at-first, at-second, at-both, at-all, at-whole}
 use Rattle.frame.specs.Header.{tagOf, sizeOf, codeOf, framePrefix, frameWhole, plain, sessions, readFrameTag, isOfTwo}
+use Rattle.table.specs.Tags.{tags}
 use Rattle.frame.specs.declared.areas.Areas.{Areas}
 use Rattle.frame.specs.Areas.{handleArea, sizedArea}
 use Rattle.frame.specs.Layout.{layoutFrame, layoutBody}
@@ -113,6 +115,11 @@ of-two P first second tag e = by (eqb tag plain) refl e
     by : (b : Bool) → eqb tag plain ≡ b → (b || eqb tag sessions) ≡ true → P tag
     by true q e = rw (eqb-true tag plain q) first
     by false q e = rw (eqb-true tag sessions e) second
+
+-- the two tags of a frame are tags of TpmSt
+pub two-tags : (tag : ℕ) → isOfTwo tag ≡ true → isIn tag tags ≡ true
+unfolding tags
+two-tags = of-two (λ (tag : ℕ). isIn tag tags ≡ true) refl refl
 
 pub tag-fits : (tag : ℕ) → isOfTwo tag ≡ true → tag < 65536
 tag-fits = of-two (λ (tag : ℕ). tag < 65536) (omega arith) (omega arith)

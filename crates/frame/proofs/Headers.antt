@@ -97,6 +97,15 @@ module _ (s : List ℕ) where
     prefix-read e h ten fits =
         rw (← e) (passes (leb n (length s)) _ _ (le-leb n (length s) fits) ∙ passes (leb 10 n) _ _ (le-leb 10 n ten) ∙ has-header _ h)
 
+  -- a frame's tag that was read is the tag, and one of the two
+  pub frame-tag-is : {n : ℕ} → gives n ≡ readFrameTag s → (n ≡ tagOf s) × (isOfTwo n ≡ true)
+  unfolding readFrameTag
+  frame-tag-is {n} e =
+      let there = needs-gives (leb 10 (length s)) _ _ (sym e) in
+      let two = needs-gives (isOfTwo (tagOf s)) _ _ (there .1) in
+      let is : tagOf s ≡ n = gives-injective (two .1) in
+      (sym is, ap isOfTwo (sym is) ∙ two .0)
+
   -- success reads
   pub success-read : 0 ≡ codeOf s → 10 ≤ length s → gives 0 ≡ readRc s
   unfolding readCode readFmt0 isKnown knownCodes

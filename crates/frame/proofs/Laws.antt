@@ -3,7 +3,7 @@
 -- The laws themselves hold over any rows, and for commands over any list of known codes that has the rows' codes (CommandLaws,
 -- ResponseLaws).
 -- Assumes nothing.
-use mathlib.Core.Path.{_≡_, refl}
+use mathlib.Core.Path.{_≡_}
 use mathlib.Core.Bool.{true}
 use mathlib.Core.List.{List}
 use mathlib.Core.Logic.{_↔_}
@@ -13,22 +13,15 @@ use Rattle.base.specs.Members.{isIn}
 use Rattle.base.specs.Said.{gives}
 use Rattle.table.specs.Dispatch.{dispatch, commandCodes}
 use Rattle.table.specs.Table.{rowFor}
-use Rattle.table.specs.Tags.{tags}
 use Rattle.table.specs.declared.row.Row.{Row}
 use Rattle.table.proofs.Table.{row-known}
 use Rattle.frame.specs.Command.{Division, readCommand}
-use Rattle.frame.specs.Header.{isOfTwo}
 use Rattle.frame.specs.Layout.{Frame, CommandParts, ResponseParts, layoutCommand, layoutResponse}
 use Rattle.frame.specs.Parts.{commandParts, responseParts}
 use Rattle.frame.specs.Response.{readResponse}
 use Rattle.frame.proofs.CommandLaws as over
 use Rattle.frame.proofs.ResponseLaws as over-one
-use Rattle.frame.proofs.FrameLaws.{of-two}
-
--- the two tags of a frame are tags of TpmSt
-two-tags : (tag : ℕ) → isOfTwo tag ≡ true → isIn tag tags ≡ true
-unfolding tags
-two-tags = of-two (λ (tag : ℕ). isIn tag tags ≡ true) refl refl
+use Rattle.frame.proofs.FrameLaws.{two-tags}
 
 has-code : (code : ℕ) (r : Row) → rowFor dispatch code ≡ gives r → isIn code commandCodes ≡ true
 has-code code r found = row-known code found

@@ -121,13 +121,16 @@ fn areas(s: &[u8]) -> Divided
     }
 }
 
-// What is judged of a command behind its size.
+// What is judged of a command behind its size. A tag of the two is one that TpmSt has.
 fn judge(s: &[u8]) -> Divided
     ensures { λ r. ⌜ saidAreas r ≡ judgeCommand dispatch commandCodes (now (s .entry)) ⌝ }
 {
     match frame_tag(s) {
         Number16::Refused(e) => Divided::Refused(e),
-        Number16::Is(_) => areas(s),
+        Number16::Is(tag) => match handles_end(s) {
+            Count::Refused(e) => Divided::Refused(e),
+            Count::Is(handles) => sized_area(tag == 0x8002, handles, s, handles),
+        },
     }
 }
 

@@ -3,6 +3,7 @@
 // in each function that uses it: a search lays out the part that its code can stand in, and no more.
 ghost use mathlib.Core.Path.{_≡_};
 ghost use mathlib.Core.Bool.{true};
+ghost use Prim.Native.Nat.{_<_};
 ghost use Rattle.base.specs.Members.{isIn};
 ghost use Rattle.table.specs.Dispatch.{commandCodes, dispatch, part};
 ghost use Rattle.table.specs.Table.{rising, rowFor, saidFound};
@@ -161,16 +162,31 @@ const FROM_194: [u64; 14] = [
     0x20000000_0_0,
 ];
 
-// The row of a code in a part of the table: the code's row stands between lo and hi, if anywhere.
-fn within(rows: &[u64], cc: TpmCc) -> Found
+// Where a code stands in a part of so many rows if none is left out from the first code up to it. Most have none left out.
+fn guess(first: u64, code: u64, len: usize) -> usize
+    ensures { λ r. ⌜ (0 < len → r < len) ⌝ }
+{
+    if code < first {
+        return 0;
+    }
+    if code - first < len as u64 {
+        (code - first) as usize
+    } else {
+        0
+    }
+}
+
+// The row of a code in a part of the table: it stands between lo and hi, if anywhere. The first look is where the code stands if
+// the part has every code from `first` on.
+fn within(rows: &[u64], first: u64, cc: TpmCc) -> Found
     requires { ⌜ rising (unpacked (now rows)) ≡ true ⌝ }
     ensures { λ r. ⌜ saidFound r ≡ rowFor (unpacked (now (rows .entry))) (cc .0) ⌝ }
 {
     let code = cc.0 as u64;
     let mut lo = 0;
     let mut hi = rows.len();
+    let mut mid = guess(first, code, rows.len());
     while lo < hi {
-        let mid = lo + (hi - lo) / 2;
         let row = rows[mid];
         if row / 256 == code {
             return Found::Is(Row {
@@ -181,8 +197,10 @@ fn within(rows: &[u64], cc: TpmCc) -> Found
         }
         if row / 256 < code {
             lo = mid + 1;
+            mid = lo + (hi - lo) / 2;
         } else {
             hi = mid;
+            mid = lo + (hi - lo) / 2;
         }
     }
     Found::Refused(cc.refused(0))
@@ -192,49 +210,49 @@ fn within(rows: &[u64], cc: TpmCc) -> Found
 fn from_11f(cc: TpmCc) -> Found
     ensures { λ r. ⌜ saidFound r ≡ rowFor (part 0) (cc .0) ⌝ }
 {
-    within(&FROM_11F, cc)
+    within(&FROM_11F, 0x11f, cc)
 }
 
 fn from_130(cc: TpmCc) -> Found
     ensures { λ r. ⌜ saidFound r ≡ rowFor (part 16) (cc .0) ⌝ }
 {
-    within(&FROM_130, cc)
+    within(&FROM_130, 0x130, cc)
 }
 
 fn from_140(cc: TpmCc) -> Found
     ensures { λ r. ⌜ saidFound r ≡ rowFor (part 32) (cc .0) ⌝ }
 {
-    within(&FROM_140, cc)
+    within(&FROM_140, 0x140, cc)
 }
 
 fn from_150(cc: TpmCc) -> Found
     ensures { λ r. ⌜ saidFound r ≡ rowFor (part 48) (cc .0) ⌝ }
 {
-    within(&FROM_150, cc)
+    within(&FROM_150, 0x150, cc)
 }
 
 fn from_162(cc: TpmCc) -> Found
     ensures { λ r. ⌜ saidFound r ≡ rowFor (part 64) (cc .0) ⌝ }
 {
-    within(&FROM_162, cc)
+    within(&FROM_162, 0x162, cc)
 }
 
 fn from_173(cc: TpmCc) -> Found
     ensures { λ r. ⌜ saidFound r ≡ rowFor (part 80) (cc .0) ⌝ }
 {
-    within(&FROM_173, cc)
+    within(&FROM_173, 0x173, cc)
 }
 
 fn from_184(cc: TpmCc) -> Found
     ensures { λ r. ⌜ saidFound r ≡ rowFor (part 96) (cc .0) ⌝ }
 {
-    within(&FROM_184, cc)
+    within(&FROM_184, 0x184, cc)
 }
 
 fn from_194(cc: TpmCc) -> Found
     ensures { λ r. ⌜ saidFound r ≡ rowFor (part 112) (cc .0) ⌝ }
 {
-    within(&FROM_194, cc)
+    within(&FROM_194, 0x194, cc)
 }
 
 // The row of a code.

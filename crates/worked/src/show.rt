@@ -1,6 +1,7 @@
 // How an answer is written: numbers in decimal with a space before each, bytes in hex.
+use crate::told::Told;
 
-pub(crate) fn bytes(s: &[u8]) {
+fn bytes(s: &[u8]) {
     if s.len() == 0 {
         io::write_all(1, b"-");
     }
@@ -11,18 +12,31 @@ pub(crate) fn bytes(s: &[u8]) {
     }
 }
 
-// What a call returned and reported. An answer has `count` numbers, a refusal its own fields.
-pub(crate) fn answer(number: u32, count: usize, out: [u64; 8]) {
-    io::write_all(1, b" = ");
-    io::print_decimal(1, number as u64);
-    let most = if number == 0 { count } else { fields(number) };
-    let mut i = 0;
-    while i < 8 {
-        if i < most {
+// The first `most` of the numbers.
+fn numbers(s: &[u64], most: usize) {
+    let mut at = 0;
+    while at < s.len() {
+        if at < most {
             io::write_all(1, b" ");
-            io::print_decimal(1, out[i]);
+            io::print_decimal(1, s[at]);
         }
-        i += 1;
+        at += 1;
+    }
+}
+
+// What a call returned and reported, and the bytes that it left. A refusal has its own fields and no entries.
+pub(crate) fn answer(told: Told, out: [u64; 8], entries: [u64; 18], later: &[u8]) {
+    io::write_all(1, b" = ");
+    io::print_decimal(1, told.number as u64);
+    if told.number == 0 {
+        numbers(&out, told.count);
+        numbers(&entries, told.entries);
+    } else {
+        numbers(&out, fields(told.number));
+    }
+    if told.writes {
+        io::write_all(1, b" ; ");
+        bytes(later);
     }
 }
 

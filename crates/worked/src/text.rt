@@ -1,16 +1,23 @@
 // The words of a line: where they stand, and the numbers and bytes that they spell.
-ghost use Prim.Native.Nat.{_+_, _≤_, _<_};
+ghost use mathlib.Core.Path.{_≡_};
+ghost use Prim.Native.Nat.{_≤_};
 ghost use lib.ListN.{length};
 ghost use Rattle.io.specs.Counts.{Counts};
 
-// Where the byte `mark` stands next, from a place on, or the end.
-pub(crate) fn stop(s: &[u8], place: usize, mark: u8) -> usize
+// Whether a word spells what is asked for, and the number, or how many bytes.
+pub(crate) struct Spelt {
+    pub good: bool,
+    pub number: usize,
+}
+
+// Where the next space stands, from a place on, or the end.
+fn stop(s: &[u8], place: usize) -> usize
     requires { ⌜ place ≤ length (now s) ⌝ }
     ensures { λ r. ⌜ (place ≤ r) × (r ≤ length (now (s .entry))) ⌝ }
 {
     let mut at = place;
     while at < s.len() {
-        if s[at] == mark {
+        if s[at] == b' ' {
             return at;
         }
         at += 1;
@@ -21,8 +28,14 @@ pub(crate) fn stop(s: &[u8], place: usize, mark: u8) -> usize
 // The word that has k words before it, empty where there are no more than k.
 pub(crate) fn word(s: &[u8], k: usize) -> &[u8] {
     let from = start(s, k);
-    let to = stop(s, from, b' ');
+    let to = stop(s, from);
     &s[from..to]
+}
+
+// All behind the first k words.
+pub(crate) fn rest(s: &[u8], k: usize) -> &[u8] {
+    let from = start(s, k);
+    &s[from..]
 }
 
 fn start(s: &[u8], k: usize) -> usize
@@ -31,7 +44,7 @@ fn start(s: &[u8], k: usize) -> usize
     let mut at = 0;
     let mut i = 0;
     while i < k {
-        at = stop(s, at, b' ');
+        at = stop(s, at);
         if at < s.len() {
             at += 1;
         }
@@ -40,60 +53,78 @@ fn start(s: &[u8], k: usize) -> usize
     at
 }
 
-// The number that decimal digits spell, as far as it fits; other bytes are passed over.
-pub(crate) fn decimal(s: &[u8]) -> u64 {
-    let mut n: u64 = 0;
+fn nothing(good: bool) -> Spelt
+    ensures { λ r. ⌜ r .number ≡ 0 ⌝ }
+{
+    Spelt { good, number: 0 }
+}
+
+// The number that decimal digits spell, where it fits 64 bits.
+pub(crate) fn decimal(s: &[u8]) -> Spelt {
+    if check::same(s, b"-") {
+        return nothing(true);
+    }
+    let mut n: usize = 0;
     let mut at = 0;
     while at < s.len() {
-        n = with_digit(n, s[at]);
+        let digit = nibble(s[at]) as usize;
+        if digit > 9 {
+            return nothing(false);
+        }
+        if n > (18446744073709551615 - digit) / 10 {
+            return nothing(false);
+        }
+        n = n * 10 + digit;
         at += 1;
     }
-    n
-}
-
-fn with_digit(n: u64, b: u8) -> u64 {
-    if b < b'0' || b > b'9' {
-        return n;
-    }
-    let digit = (b - b'0') as u64;
-    if n <= (18446744073709551615 - digit) / 10 {
-        n * 10 + digit
-    } else {
-        n
+    Spelt {
+        good: s.len() > 0,
+        number: n,
     }
 }
 
-// The bytes that hex digits spell, put at the start of out, and how many there are.
-pub(crate) fn unhex(s: &[u8], out: &mut [u8]) -> usize
-    ensures { λ r. ⌜ Counts r (now (out .exit)) ⌝ }
+// The bytes that hex digits spell, put at the start of out, where they have room there.
+pub(crate) fn unhex(s: &[u8], out: &mut [u8]) -> Spelt
+    ensures { λ r. ⌜ Counts (r .number) (now (out .exit)) ⌝ }
 {
-    let count = least(s.len() / 2, out.len());
+    if check::same(s, b"-") {
+        return nothing(true);
+    }
+    let count = s.len() / 2;
+    if count == 0 || s.len() % 2 == 1 {
+        return nothing(false);
+    }
+    if count > out.len() {
+        return nothing(false);
+    }
     let mut at = 0;
     while at < count {
-        out[at] = nibble(s[2 * at]) * 16 + nibble(s[2 * at + 1]);
+        let high = nibble(s[2 * at]);
+        let low = nibble(s[2 * at + 1]);
+        if high > 15 {
+            return nothing(false);
+        }
+        if low > 15 {
+            return nothing(false);
+        }
+        out[at] = high * 16 + low;
         at += 1;
     }
-    count
+    Spelt {
+        good: true,
+        number: count,
+    }
 }
 
-fn least(a: usize, b: usize) -> usize
-    ensures { λ r. ⌜ (r ≤ a) × (r ≤ b) ⌝ }
-{
-    if a < b { a } else { b }
-}
-
-fn nibble(b: u8) -> u8
-    ensures { λ r. ⌜ r < 16 ⌝ }
-{
-    if b < b'0' {
-        0
-    } else if b <= b'9' {
+// What a hex digit counts; more than 15 where it is none.
+fn nibble(b: u8) -> u8 {
+    if b'0' <= b && b <= b'9' {
         b - b'0'
-    } else if b < b'a' {
-        0
-    } else if b <= b'f' {
+    } else if b'a' <= b && b <= b'f' {
         b - b'a' + 10
+    } else if b'A' <= b && b <= b'F' {
+        b - b'A' + 10
     } else {
-        0
+        255
     }
 }

@@ -1,13 +1,14 @@
--- `frame::command::judge` meets its contract: it goes by what `frame_tag` said.
+-- `frame::command::judge` meets its contract: it goes by what `frame_tag` and `handles_end` said; a tag of the two is known.
 -- Assumes nothing.
 use mathlib.Core.Path.{_∙_}
 use denote.Ref.{now}
 use Rattle.frame.specs.Header.{readFrameTag}
-use Rattle.frame.specs.Command.{judgeCommand}
-use Rattle.base.specs.Answer.{saidNumber16}
+use Rattle.frame.specs.Command.{commandHandles, commandAreas, judgeCommand}
+use Rattle.base.specs.Answer.{saidCount, saidNumber16}
 use Rattle.table.specs.Dispatch.{dispatch, commandCodes}
 use Rattle.base.proofs.Answers.{learnt}
 use Rattle.base.proofs.Checks.{goes-on, stops}
+use Rattle.frame.proofs.Divisions.{judged-sized}
 use borrow.Author.Needs.{needs}
 use Rattle.frame.proofs.command.judge.Statement.{statement}
 use Rattle.frame.proofs.command.judge.Tie as tie
@@ -18,20 +19,49 @@ frame-tag-requires c κs = search needs
 enum-known-e : tie.Need-enum-known-e
 enum-known-e c = search needs
 
-enum-told : tie.Need-enum-told
-enum-told c = search needs
+enum-known-tag : tie.Need-enum-known-tag
+enum-known-tag c = search needs
 
-areas-requires : tie.Need-areas-requires
-areas-requires c κs = search needs
+handles-end-requires : tie.Need-handles-end-requires
+handles-end-requires c κs = search needs
+
+enum-known-e-2 : tie.Need-enum-known-e-2
+enum-known-e-2 c = search needs
+
+enum-known-handles : tie.Need-enum-known-handles
+enum-known-handles c = search needs
+
+sized-area-requires : tie.Need-sized-area-requires
+sized-area-requires c κs = search needs
 
 returns : tie.Need-returns
 unfolding judgeCommand
 returns c = stops (readFrameTag (now (c .before .before .before .before .before .args .s))) _ (learnt saidNumber16 (c .before .e .given .1) (c .before .before .before .frame-tag .ensures))
 
 returns-2 : tie.Need-returns-2
-unfolding judgeCommand
-returns-2 c = c .areas .ensures ∙ goes-on (readFrameTag (now (c .before .before .before .before .before .args .s))) _ (learnt saidNumber16 (c .before .enum-told .given .1) (c .before .before .before .frame-tag .ensures))
+unfolding judgeCommand commandAreas
+returns-2 c =
+    let s = now (c .before .before .before .before .before .before .before .before .before .args .s) in
+    stops (commandHandles dispatch commandCodes s) _ (learnt saidCount (c .before .e2 .given .1) (c .before .before .before .handles-end .ensures))
+    ∙ goes-on (readFrameTag s) _ (learnt saidNumber16 (c .before .before .before .before .before .tag .given .1) (c .before .before .before .before .before .before .before .frame-tag .ensures))
+
+returns-3 : tie.Need-returns-3
+returns-3 c =
+    let s = now (c .before .before .before .before .before .before .before .before .before .before .args .s) in
+    c .sized-area .ensures
+    ∙ judged-sized dispatch commandCodes s (learnt saidNumber16 (c .before .before .before .before .before .before .tag .given .1) (c .before .before .before .before .before .before .before .before .frame-tag .ensures)) (learnt saidCount (c .before .before .handles .given .1) (c .before .before .before .before .handles-end .ensures))
 
 pub judge-spec : {M : Type 1} → statement M
 judge-spec =
-    tie.close (tie.spec frame-tag-requires enum-known-e enum-told areas-requires returns returns-2)
+    tie.close
+    (tie.spec
+    frame-tag-requires
+    enum-known-e
+    enum-known-tag
+    handles-end-requires
+    enum-known-e-2
+    enum-known-handles
+    sized-area-requires
+    returns
+    returns-2
+    returns-3)

@@ -7,10 +7,10 @@ use Rattle.worked.proofs.text.stop.Statement.{statement}
 use Rattle.worked.proofs.text.stop.Tie as tie
 
 abbrev Inv-loop : tie.InvT-loop
-Inv-loop s place mark at₀ at = (place ≤ at) × (at ≤ length s)
+Inv-loop s place at₀ at = (place ≤ at) × (at ≤ length s)
 
 abbrev μ-loop : tie.MeasureT-loop
-μ-loop s place mark at₀ at = length s - at
+μ-loop s place at₀ at = length s - at
 
 loop-holds : tie.Need-loop-holds Inv-loop μ-loop
 loop-holds c = search needs

@@ -1,11 +1,11 @@
--- `worked::calls::filled` is safe and ends: the place is at most the length, which stays.
+-- `worked::told::filled` is safe and ends: the place is at most the length, which stays.
 -- Assumes nothing.
 use Prim.Native.Nat.{_≤_, _-_}
 use lib.ListN.{length}
 use mathlib.Core.Path.{_≡_}
 use borrow.Author.Needs.{needs}
-use Rattle.worked.proofs.calls.filled.Statement.{statement}
-use Rattle.worked.proofs.calls.filled.Tie as tie
+use Rattle.worked.proofs.told.filled.Statement.{statement}
+use Rattle.worked.proofs.told.filled.Tie as tie
 
 abbrev Inv-loop : tie.InvT-loop
 Inv-loop part₀ at₀ part at = (at ≤ length part₀) × (length part ≡ length part₀)

@@ -1,0 +1,185 @@
+// The calls on whole frames, and on the tags, the codes and the table that frames are checked by.
+use crate::told::Told;
+use crate::told::filled;
+use crate::told::parts;
+use crate::told::read;
+use crate::told::unknown;
+use crate::told::wrote;
+
+// The call of that name, on the bytes and the first number of the line: a tag or a code, where one is asked for.
+pub(crate) fn call(
+    name: &[u8],
+    bytes: &mut [u8],
+    number: usize,
+    out: &mut [u64; 8],
+    entries: &mut [u64; 18],
+) -> Told {
+    let told = header(name, bytes, out);
+    if told.known {
+        return told;
+    }
+    let told = command(name, bytes, out, entries);
+    if told.known {
+        return told;
+    }
+    let told = response(name, bytes, out);
+    if told.known {
+        return told;
+    }
+    let told = command_part(name, bytes);
+    if told.known {
+        return told;
+    }
+    let told = response_part(name, bytes);
+    if told.known {
+        return told;
+    }
+    if number > 4294967295 {
+        return unknown();
+    }
+    let told = with_code(name, bytes, number as u32, out, entries);
+    if told.known || number > 65535 {
+        return told;
+    }
+    with_tag(name, bytes, number as u16, out)
+}
+
+fn with_tag(name: &[u8], bytes: &mut [u8], tag: u16, out: &mut [u64; 8]) -> Told {
+    if check::same(name, b"tag_known") {
+        return read(1, capi::dispatch::skein_tag_known(tag, out));
+    }
+    if check::same(name, b"frame_set_tag") {
+        return wrote(capi::header::skein_frame_set_tag(bytes, tag, out));
+    }
+    unknown()
+}
+
+fn with_code(
+    name: &[u8],
+    bytes: &mut [u8],
+    code: u32,
+    out: &mut [u64; 8],
+    entries: &mut [u64; 18],
+) -> Told {
+    if check::same(name, b"rc_read") {
+        return read(4, capi::code::skein_rc_read(code, out));
+    }
+    if check::same(name, b"table_find") {
+        return read(2, capi::dispatch::skein_table_find(code, out));
+    }
+    if check::same(name, b"table_known") {
+        return read(1, capi::dispatch::skein_table_known(code, out));
+    }
+    if check::same(name, b"command_set_cc") {
+        return wrote(capi::command::skein_command_set_cc(bytes, code, out));
+    }
+    if check::same(name, b"response_set_rc") {
+        return wrote(capi::response::skein_response_set_rc(bytes, code, out));
+    }
+    if check::same(name, b"response_validate") {
+        return read(0, capi::response::skein_response_validate(code, bytes, out));
+    }
+    if check::same(name, b"response_parts") {
+        return parts(capi::response::skein_response_parts(code, bytes, entries, out));
+    }
+    unknown()
+}
+
+fn header(name: &[u8], bytes: &[u8], out: &mut [u64; 8]) -> Told {
+    if check::same(name, b"frame_tag") {
+        return read(1, capi::header::skein_frame_tag(bytes, out));
+    }
+    if check::same(name, b"frame_size") {
+        return read(1, capi::header::skein_frame_size(bytes, out));
+    }
+    if check::same(name, b"frame_len") {
+        return read(1, capi::header::skein_frame_len(bytes, out));
+    }
+    if check::same(name, b"frame_is_empty") {
+        return read(1, capi::header::skein_frame_is_empty(bytes, out));
+    }
+    unknown()
+}
+
+fn command(name: &[u8], bytes: &[u8], out: &mut [u64; 8], entries: &mut [u64; 18]) -> Told {
+    if check::same(name, b"command_cast") {
+        return read(2, capi::command::skein_command_cast(bytes, out));
+    }
+    if check::same(name, b"command_cast_prefix") {
+        return read(4, capi::command::skein_command_cast_prefix(bytes, out));
+    }
+    if check::same(name, b"command_validate") {
+        return read(0, capi::command::skein_command_validate(bytes, out));
+    }
+    if check::same(name, b"command_cc") {
+        return read(1, capi::command::skein_command_cc(bytes, out));
+    }
+    if check::same(name, b"command_handles") {
+        return read(2, capi::command::skein_command_handles(bytes, out));
+    }
+    if check::same(name, b"command_auth_area") {
+        return read(2, capi::command::skein_command_auth_area(bytes, out));
+    }
+    if check::same(name, b"command_parameters") {
+        return read(2, capi::command::skein_command_parameters(bytes, out));
+    }
+    if check::same(name, b"command_parts") {
+        return parts(capi::command::skein_command_parts(bytes, entries, out));
+    }
+    unknown()
+}
+
+fn response(name: &[u8], bytes: &[u8], out: &mut [u64; 8]) -> Told {
+    if check::same(name, b"response_cast") {
+        return read(2, capi::response::skein_response_cast(bytes, out));
+    }
+    if check::same(name, b"response_cast_prefix") {
+        return read(4, capi::response::skein_response_cast_prefix(bytes, out));
+    }
+    if check::same(name, b"response_rc") {
+        return read(1, capi::response::skein_response_rc(bytes, out));
+    }
+    if check::same(name, b"response_body") {
+        return read(2, capi::response::skein_response_body(bytes, out));
+    }
+    unknown()
+}
+
+// The parts that can be written through.
+fn command_part(name: &[u8], bytes: &mut [u8]) -> Told {
+    if check::same(name, b"command_cast_mut") {
+        return filled(frame::command::cast_mut(bytes));
+    }
+    if check::same(name, b"command_cast_prefix_mut") {
+        return filled(frame::command::cast_prefix_mut(bytes));
+    }
+    if check::same(name, b"command_cast_prefix_tail_mut") {
+        return filled(frame::command::cast_prefix_tail_mut(bytes));
+    }
+    if check::same(name, b"command_handles_mut") {
+        return filled(frame::command::handles_mut(bytes));
+    }
+    if check::same(name, b"command_auth_area_mut") {
+        return filled(frame::command::auth_area_mut(bytes));
+    }
+    if check::same(name, b"command_parameters_mut") {
+        return filled(frame::command::parameters_mut(bytes));
+    }
+    unknown()
+}
+
+fn response_part(name: &[u8], bytes: &mut [u8]) -> Told {
+    if check::same(name, b"response_cast_mut") {
+        return filled(frame::response::cast_mut(bytes));
+    }
+    if check::same(name, b"response_cast_prefix_mut") {
+        return filled(frame::response::cast_prefix_mut(bytes));
+    }
+    if check::same(name, b"response_cast_prefix_tail_mut") {
+        return filled(frame::response::cast_prefix_tail_mut(bytes));
+    }
+    if check::same(name, b"response_body_mut") {
+        return filled(frame::response::body_mut(bytes));
+    }
+    unknown()
+}
