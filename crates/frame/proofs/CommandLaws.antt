@@ -44,6 +44,8 @@ use Rattle.frame.proofs.FrameLaws.{
   handles-sound,
   handles-complete,
   sized-order,
+  is-of-two,
+  of-the-two,
   plain-places,
   frame-again,
   sized-complete,
@@ -143,7 +145,7 @@ module _ (rows : List Row) (known : List ℕ) where
           row = t .row;
           has-row = t .has-row;
           well-formed = record {
-            tag-of-two = t .tag-two;
+            tag-of-two = of-the-two (tagOf s) (t .tag-two);
             code-fits = code-fits s p (t .ten);
             handle-bytes = are-bytes-take (d .areas .handles - 10) (drop 10 s) (are-bytes-drop 10 s p);
             handle-count = omega (arith, handles .1);
@@ -180,8 +182,8 @@ module _ (rows : List Row) (known : List ℕ) where
                 row = row;
                 ten = omega arith;
                 size-is = framed .size-is;
-                tag-two = rw tag (w .tag-of-two);
-                tag-known = rw tag (two-tags (f .tag) (w .tag-of-two));
+                tag-two = rw tag (is-of-two (f .tag) (w .tag-of-two));
+                tag-known = rw tag (two-tags (f .tag) (is-of-two (f .tag) (w .tag-of-two)));
                 code-known = rw code (holds (f .code) row found);
                 has-row = rw code found;
                 room = omega arith;
@@ -218,7 +220,7 @@ module _ (rows : List Row) (known : List ℕ) where
         let s : List ℕ = layoutFrame (f .tag) (f .code) body in
         let long : length s ≡ 10 + length body = length-frame (f .tag) (f .code) body in
         let small : length s < 4294967296 = c .size-fits in
-        let framed = frame-complete (f .tag) (f .code) body (tag-fits (f .tag) (w .tag-of-two)) (w .code-fits) (omega arith) in
+        let framed = frame-complete (f .tag) (f .code) body (tag-fits (f .tag) (is-of-two (f .tag) (w .tag-of-two))) (w .code-fits) (omega arith) in
         let count : 10 + length (f .handles) ≡ h = ap (λ (n : ℕ). 10 + n) (w .handle-count) in
         let stop : eqb (f .tag) sessions ≡ false → h + length entries ≡ h = λ q. rw (w .plain-entries q) (omega arith) in
         let sized = sized-complete (eqb (f .tag) sessions) h h s (f .handles) entries (f .parameters) small count stop (framed .body-at) (framed .body-long) in

@@ -1,8 +1,9 @@
 -- What commands and responses share: the header, the envelope, the handles and the sized bytes, each as it is read and as it is
 -- laid out.
 -- Assumes nothing.
-use mathlib.Core.Path.{_≡_, refl, sym, _∙_}
+use mathlib.Core.Path.{_≡_, refl, sym, _∙_, ap}
 use mathlib.Core.Bool.{Bool, true, false, cond, _||_}
+use mathlib.Core.Logic.{_⊎_, inl, inr}
 use mathlib.Core.List.{List, [], _++_}
 use Prim.Native.Nat.{ℕ, _+_, _-_, _*_, _≤_, _<_}
 use native.Mathlib.Nat.{le-refl}
@@ -115,6 +116,14 @@ of-two P first second tag e = by (eqb tag plain) refl e
     by : (b : Bool) → eqb tag plain ≡ b → (b || eqb tag sessions) ≡ true → P tag
     by true q e = rw (eqb-true tag plain q) first
     by false q e = rw (eqb-true tag sessions e) second
+
+-- the test and the layout name the same two
+pub is-of-two : (tag : ℕ) → (tag ≡ plain) ⊎ (tag ≡ sessions) → isOfTwo tag ≡ true
+is-of-two tag (inl e) = ap isOfTwo e
+is-of-two tag (inr e) = ap isOfTwo e
+
+pub of-the-two : (tag : ℕ) → isOfTwo tag ≡ true → (tag ≡ plain) ⊎ (tag ≡ sessions)
+of-the-two = of-two (λ (tag : ℕ). (tag ≡ plain) ⊎ (tag ≡ sessions)) (inl refl) (inr refl)
 
 -- the two tags of a frame are tags of TpmSt
 pub two-tags : (tag : ℕ) → isOfTwo tag ≡ true → isIn tag tags ≡ true

@@ -55,6 +55,8 @@ use Rattle.frame.proofs.FrameLaws.{
   handles-sound,
   handles-complete,
   sized-order,
+  is-of-two,
+  of-the-two,
   plain-places,
   frame-again,
   sized-complete,
@@ -211,7 +213,7 @@ module _ (rows : List Row) (cc : ℕ) where
           record {
             success = q;
             well-formed = record {
-              tag-of-two = t .tag-two;
+              tag-of-two = of-the-two (tagOf s) (t .tag-two);
               code-fits = code-fits s p (t .ten);
               handle-bytes = are-bytes-take (d .areas .handles - 10) (drop 10 s) (are-bytes-drop 10 s p);
               handle-count = omega (arith, handles .1);
@@ -262,7 +264,7 @@ module _ (rows : List Row) (cc : ℕ) where
               has-row = found;
               ten = omega arith;
               size-is = framed .size-is;
-              tag-two = rw tag (w .tag-of-two);
+              tag-two = rw tag (is-of-two (f .tag) (w .tag-of-two));
               code-reads = rw (code, success) success-reads;
               judged = rw (code, success) (success-passes (row .responses) s (record { room = omega arith; sized = rw tag sized }));
               walked = walked .1;
@@ -330,7 +332,7 @@ module _ (rows : List Row) (cc : ℕ) where
       let s : List ℕ = layoutFrame (f .tag) (f .code) body in
       let small : length s < 4294967296 = e .size-fits in
       let long : length s ≡ 10 + length body = length-frame (f .tag) (f .code) body in
-      let framed = frame-complete (f .tag) (f .code) body (tag-fits (f .tag) (w .tag-of-two)) (w .code-fits) (omega arith) in
+      let framed = frame-complete (f .tag) (f .code) body (tag-fits (f .tag) (is-of-two (f .tag) (w .tag-of-two))) (w .code-fits) (omega arith) in
       success-complete f row found s (e .success) w framed small
 
   error-laid : (f : Frame) (row : Row) → rowFor rows cc ≡ gives row → ErrorParts f

@@ -14,7 +14,7 @@ use Rattle.base.specs.Tpm2b.{tpm2b}
 use Rattle.rc.specs.Code.{readCode}
 use Rattle.table.specs.Table.{rowFor}
 use Rattle.table.specs.declared.row.Row.{Row}
-use Rattle.frame.specs.Header.{plain, sessions, isOfTwo}
+use Rattle.frame.specs.Header.{plain, sessions}
 
 -- an entry of an authorization area; in a response it has no handle
 pub record Entry : Type 0 where
@@ -75,7 +75,7 @@ WholeEntries width (e ∷ es) = WholeEntry width e × WholeEntries width es
 -- what commands and success responses share: a tag of the two, as many handle bytes as the row says, at most three entries and none
 -- under the plain tag, and a size that fits its field
 pub record WellFormed (width handles : ℕ) (f : Frame) : Type 0 where
-  pub tag-of-two : isOfTwo (f .tag) ≡ true
+  pub tag-of-two : (f .tag ≡ plain) ⊎ (f .tag ≡ sessions)
   pub code-fits : f .code < 4294967296
   pub handle-bytes : AreBytes (f .handles)
   pub handle-count : length (f .handles) ≡ 4 * handles
