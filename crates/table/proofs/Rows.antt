@@ -123,8 +123,9 @@ code-unpacked-at (n ∷ s) (suc i) = code-unpacked-at s i
 
 -- the packed row at a place is the row of its code
 pub packed-row-at : (s : List ℕ) → rising (unpacked s) ≡ true → (i : ℕ) → i < length s → {code : ℕ} → getD s i 0 / 256 ≡ code
-    → gives (record { code = code; handles = getD s i 0 / 16 % 16; responses = getD s i 0 % 16 }) ≡ rowFor (unpacked s) code
-packed-row-at s e i h t = rw (unpacked-at, code-unpacked-at, t) at (row-at (unpacked s) e i (rowOf 0) (rw length-unpacked h))
+    → gives (rowOf (getD s i 0)) ≡ rowFor (unpacked s) code
+packed-row-at s e i h t =
+    rw unpacked-at at (row-at (unpacked s) e i (rowOf 0) (rw length-unpacked h)) ∙ ap (rowFor (unpacked s)) (code-unpacked-at s i ∙ t)
 
 -- rows behind others rise too ..
 rising-behind : (a b : List Row) → rising (a ++ b) ≡ true → rising b ≡ true

@@ -7,7 +7,7 @@ ghost use Prim.Native.Nat.{_<_};
 ghost use Rattle.base.specs.Members.{isIn};
 ghost use Rattle.table.specs.Dispatch.{commandCodes, dispatch, part};
 ghost use Rattle.table.specs.Table.{rising, rowFor, saidFound};
-ghost use Rattle.table.specs.Packed.{unpacked};
+ghost use Rattle.table.specs.Packed.{rowOrNone, unpacked};
 use crate::row::Found;
 use crate::row::Row;
 use base::code::TpmCc;
@@ -176,11 +176,11 @@ fn guess(first: u64, code: u64, len: usize) -> usize
     }
 }
 
-// The row of a code in a part of the table: it stands between lo and hi, if anywhere. The first look is where the code stands if
-// the part has every code from `first` on.
-fn within(rows: &[u64], first: u64, cc: TpmCc) -> Found
+// The row of a code in a part of the table, counted from 1, and 0 for none: it stands between lo and hi, if anywhere. The first look
+// is where the code stands if the part has every code from `first` on.
+fn within(rows: &[u64], first: u64, cc: TpmCc) -> u64
     requires { ⌜ rising (unpacked (now rows)) ≡ true ⌝ }
-    ensures { λ r. ⌜ saidFound r ≡ rowFor (unpacked (now (rows .entry))) (cc .0) ⌝ }
+    ensures { λ r. ⌜ rowOrNone r (cc .0) ≡ rowFor (unpacked (now (rows .entry))) (cc .0) ⌝ }
 {
     let code = cc.0 as u64;
     let mut lo = 0;
@@ -189,11 +189,7 @@ fn within(rows: &[u64], first: u64, cc: TpmCc) -> Found
     while lo < hi {
         let row = rows[mid];
         if row / 256 == code {
-            return Found::Is(Row {
-                code: cc.0,
-                handles: (row / 16 % 16) as u8,
-                responses: (row % 16) as u8,
-            });
+            return row + 1;
         }
         if row / 256 < code {
             lo = mid + 1;
@@ -203,61 +199,61 @@ fn within(rows: &[u64], first: u64, cc: TpmCc) -> Found
             mid = lo + (hi - lo) / 2;
         }
     }
-    Found::Refused(cc.refused(0))
+    0
 }
 
 // The row of a code in each part. A part is laid out in the function that uses it, so each has its own.
-fn from_11f(cc: TpmCc) -> Found
-    ensures { λ r. ⌜ saidFound r ≡ rowFor (part 0) (cc .0) ⌝ }
+fn from_11f(cc: TpmCc) -> u64
+    ensures { λ r. ⌜ rowOrNone r (cc .0) ≡ rowFor (part 0) (cc .0) ⌝ }
 {
     within(&FROM_11F, 0x11f, cc)
 }
 
-fn from_130(cc: TpmCc) -> Found
-    ensures { λ r. ⌜ saidFound r ≡ rowFor (part 16) (cc .0) ⌝ }
+fn from_130(cc: TpmCc) -> u64
+    ensures { λ r. ⌜ rowOrNone r (cc .0) ≡ rowFor (part 16) (cc .0) ⌝ }
 {
     within(&FROM_130, 0x130, cc)
 }
 
-fn from_140(cc: TpmCc) -> Found
-    ensures { λ r. ⌜ saidFound r ≡ rowFor (part 32) (cc .0) ⌝ }
+fn from_140(cc: TpmCc) -> u64
+    ensures { λ r. ⌜ rowOrNone r (cc .0) ≡ rowFor (part 32) (cc .0) ⌝ }
 {
     within(&FROM_140, 0x140, cc)
 }
 
-fn from_150(cc: TpmCc) -> Found
-    ensures { λ r. ⌜ saidFound r ≡ rowFor (part 48) (cc .0) ⌝ }
+fn from_150(cc: TpmCc) -> u64
+    ensures { λ r. ⌜ rowOrNone r (cc .0) ≡ rowFor (part 48) (cc .0) ⌝ }
 {
     within(&FROM_150, 0x150, cc)
 }
 
-fn from_162(cc: TpmCc) -> Found
-    ensures { λ r. ⌜ saidFound r ≡ rowFor (part 64) (cc .0) ⌝ }
+fn from_162(cc: TpmCc) -> u64
+    ensures { λ r. ⌜ rowOrNone r (cc .0) ≡ rowFor (part 64) (cc .0) ⌝ }
 {
     within(&FROM_162, 0x162, cc)
 }
 
-fn from_173(cc: TpmCc) -> Found
-    ensures { λ r. ⌜ saidFound r ≡ rowFor (part 80) (cc .0) ⌝ }
+fn from_173(cc: TpmCc) -> u64
+    ensures { λ r. ⌜ rowOrNone r (cc .0) ≡ rowFor (part 80) (cc .0) ⌝ }
 {
     within(&FROM_173, 0x173, cc)
 }
 
-fn from_184(cc: TpmCc) -> Found
-    ensures { λ r. ⌜ saidFound r ≡ rowFor (part 96) (cc .0) ⌝ }
+fn from_184(cc: TpmCc) -> u64
+    ensures { λ r. ⌜ rowOrNone r (cc .0) ≡ rowFor (part 96) (cc .0) ⌝ }
 {
     within(&FROM_184, 0x184, cc)
 }
 
-fn from_194(cc: TpmCc) -> Found
-    ensures { λ r. ⌜ saidFound r ≡ rowFor (part 112) (cc .0) ⌝ }
+fn from_194(cc: TpmCc) -> u64
+    ensures { λ r. ⌜ rowOrNone r (cc .0) ≡ rowFor (part 112) (cc .0) ⌝ }
 {
     within(&FROM_194, 0x194, cc)
 }
 
-// The row of a code.
-pub fn find(cc: TpmCc) -> Found
-    ensures { λ r. ⌜ saidFound r ≡ rowFor dispatch (cc .0) ⌝ }
+// The row of a code in the whole table, counted from 1, and 0 for none.
+fn search(cc: TpmCc) -> u64
+    ensures { λ r. ⌜ rowOrNone r (cc .0) ≡ rowFor dispatch (cc .0) ⌝ }
 {
     if cc.0 < 0x130 {
         return from_11f(cc);
@@ -281,6 +277,22 @@ pub fn find(cc: TpmCc) -> Found
         return from_184(cc);
     }
     from_194(cc)
+}
+
+// The row of a code.
+pub fn find(cc: TpmCc) -> Found
+    ensures { λ r. ⌜ saidFound r ≡ rowFor dispatch (cc .0) ⌝ }
+{
+    let found = search(cc);
+    if found == 0 {
+        return Found::Refused(cc.refused(0));
+    }
+    let row = found - 1;
+    Found::Is(Row {
+        code: cc.0,
+        handles: (row / 16 % 16) as u8,
+        responses: (row % 16) as u8,
+    })
 }
 
 // Whether TpmCc has a code.

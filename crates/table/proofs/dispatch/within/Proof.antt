@@ -1,24 +1,23 @@
 -- `table::dispatch::within` meets its contract. The invariant of its loop: the code's row stands from lo to before hi, if anywhere,
 -- and so does the next look. The rows rise, so that look settles all on one side of it. The measure is what is left between the two.
 -- Assumes nothing.
-use mathlib.Core.Path.{_∙_, ap}
 use mathlib.Core.List.{List}
 use Prim.Native.Nat.{ℕ, _-_, _≤_, _<_}
+use native.Mathlib.Numerals.{add-one}
 use native.Mathlib.Omega.{arith}
 use borrow.Author.Needs.{needs}
 use lib.ListN.{length}
 use denote.Ref.{now}
-use Rattle.base.specs.Said.{refuses}
 use Rattle.table.specs.Packed.{unpacked}
 use Rattle.table.proofs.Rows.{Between, between-all, between-none, between-above, between-below, length-unpacked, code-unpacked-at, packed-row-at}
 use Rattle.table.proofs.dispatch.within.Statement.{statement}
 use Rattle.table.proofs.dispatch.within.Tie as tie
 
 abbrev Inv-loop : tie.InvT-loop
-Inv-loop rows first cc code lo₀ hi₀ mid₀ lo hi mid = Between (unpacked rows) (cc .0) lo hi × (lo < hi → (lo ≤ mid) × (mid < hi))
+Inv-loop rows first code lo₀ hi₀ mid₀ lo hi mid = Between (unpacked rows) code lo hi × (lo < hi → (lo ≤ mid) × (mid < hi))
 
 abbrev μ-loop : tie.MeasureT-loop
-μ-loop rows first cc code lo₀ hi₀ mid₀ lo hi mid = hi - lo
+μ-loop rows first code lo₀ hi₀ mid₀ lo hi mid = hi - lo
 
 -- in the loop: the rows, that hi stands inside them, and the look between lo and hi
 abbrev rowsOf : tie.In-loop Inv-loop μ-loop → List ℕ
@@ -47,18 +46,15 @@ mul-row c = let h = inside c in let at = look c in omega arith
 shared-slice-read-row : tie.Need-shared-slice-read-row Inv-loop μ-loop
 shared-slice-read-row c = let h = inside (c .before) in let at = look (c .before) in omega arith
 
-cast-t16 : tie.Need-cast-t16 Inv-loop μ-loop
-cast-t16 c = omega arith
-
-cast-t18 : tie.Need-cast-t18 Inv-loop μ-loop
-cast-t18 c = omega arith
+add-result : tie.Need-add-result Inv-loop μ-loop
+add-result c = omega arith
 
 returns : tie.Need-returns Inv-loop μ-loop
 returns c =
     let turn = c .before .before in
     let h = inside turn in
     let at = look turn in
-    packed-row-at (rowsOf turn) (turn .before .before .before .before .before .pre) (turn .before .loop .mid) (omega arith) (c .if1 .taken)
+    rw add-one (packed-row-at (rowsOf turn) (turn .before .before .before .before .before .pre) (turn .before .loop .mid) (omega arith) (c .if1 .taken))
 
 add-lo : tie.Need-add-lo Inv-loop μ-loop
 add-lo c =
@@ -111,11 +107,8 @@ loop-again-2 c =
       λ some. (omega arith, omega arith),
     )
 
-refused-requires : tie.Need-refused-requires Inv-loop μ-loop
-refused-requires c κs = search needs
-
 returns-2 : tie.Need-returns-2 Inv-loop μ-loop
-returns-2 c = ap refuses (c .refused .ensures) ∙ between-none (c .before .before .loop .inv .0) (c .before .loop-test .left)
+returns-2 c = between-none (c .before .loop .inv .0) (c .loop-test .left)
 
 pub within-spec : {M : Type 1} → statement M
 within-spec =
@@ -128,8 +121,7 @@ within-spec =
     loop-holds
     mul-row
     shared-slice-read-row
-    cast-t16
-    cast-t18
+    add-result
     returns
     add-lo
     sub-mid
@@ -140,5 +132,4 @@ within-spec =
     add-mid-2
     loop-less-2
     loop-again-2
-    refused-requires
     returns-2)
