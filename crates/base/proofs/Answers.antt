@@ -1,7 +1,6 @@
 -- An answer is told whole by what it says: each reading of an answer enum is injective.
 -- Assumes nothing.
 use mathlib.Core.Path.{_≡_, refl, sym, _∙_, ap}
-use Prim.Native.Nat.{ℕ}
 use Rattle.base.specs.declared.error.TpmError.{TpmError}
 use Rattle.base.specs.declared.answer.Outcome.{Outcome}
 use Rattle.base.specs.declared.answer.Outcome.the-variants as outcome

@@ -1,13 +1,11 @@
 -- Bytes that stand at a place of others: put together and taken apart, so that a layout can be read piece by piece.
 -- Assumes nothing.
 use mathlib.Core.Path.{_≡_, refl, subst, sym, _∙_, ap}
-use mathlib.Core.List.{List, [], _∷_, _++_, append-assoc}
+use mathlib.Core.List.{List, _++_, append-assoc}
 use Prim.Native.Nat.{ℕ, _+_, _-_, _≤_}
-use native.Mathlib.Nat.{le-refl}
 use native.Mathlib.Omega.{arith}
 use lib.ListN.{length, take, drop, length-append, length-drop, take-append-drop}
 use lib.Seq.{take-at, drop-at, drop-drop, length-take-le, take-length, take-append-le, drop-append-le}
-use Rattle.base.specs.Bytes.{number}
 
 -- x stands at a place of s
 pub record At (s : List ℕ) (place : ℕ) (x : List ℕ) : Type 0 where

@@ -1,15 +1,14 @@
 -- What every width of field shares: each law is over the width w, and the proofs of the functions cite it.
 -- Assumes nothing.
-use mathlib.Core.Path.{_≡_, refl, sym, _∙_, ap}
-use mathlib.Core.List.{List, [], _∷_, _++_}
-use Prim.Native.Nat.{ℕ, zero, suc, _+_, _-_, _≤_, _<_}
+use mathlib.Core.Path.{_≡_, sym, ap}
+use mathlib.Core.List.{List, [], _∷_}
+use Prim.Native.Nat.{ℕ, _-_, _≤_, _<_}
 use native.Mathlib.Omega.{arith}
 use borrow.Author.Tests.{le-leb, lt-leb}
-use lib.Dec.{leb}
-use lib.ListN.{length, getD, take, drop}
+use lib.ListN.{length}
 use lib.Seq.{sets}
 use Rattle.base.specs.Bytes.{number, bytes}
-use Rattle.base.specs.Said.{Said, gives, refuses, done, after}
+use Rattle.base.specs.Said.{gives, refuses, done, after}
 use Rattle.base.specs.Field.{readField, writeField}
 use Rattle.base.proofs.Bytes.{length-bytes}
 use Rattle.base.proofs.Lists.{span, take-drop-span, stored}

@@ -2,16 +2,16 @@
 -- of a TPM2B; a buffer written and read again is equal, and the tail is what stood behind it; a TPM2B read and written
 -- again is the same bytes; an extended buffer holds what it held and then what was given.
 -- Assumes nothing.
-use mathlib.Core.Path.{_≡_, refl, sym, _∙_, ap}
+use mathlib.Core.Path.{_≡_, sym, _∙_, ap}
 use mathlib.Core.Bool.{true}
-use mathlib.Core.List.{List, [], _∷_, _++_, append-assoc, append-nil}
+use mathlib.Core.List.{List, [], _++_, append-assoc, append-nil}
 use mathlib.Core.Logic.{_↔_}
 use Prim.Native.Nat.{ℕ, _+_, _-_, _≤_, _<_}
 use native.Mathlib.Omega.{arith}
 use lib.Dec.{leb}
 use lib.ListN.{length, take, drop, replicate, length-append, length-drop, drop-of-length-le}
 use lib.Seq.{length-take-le, take-at}
-use Rattle.base.specs.Bytes.{AreBytes, number, bytes}
+use Rattle.base.specs.Bytes.{AreBytes, bytes}
 use Rattle.base.specs.Said.{Said, gives, then}
 use Rattle.base.specs.Tpm2b.{tpm2b}
 use Rattle.base.proofs.Bytes.{number-lt, are-bytes-take}

@@ -1,19 +1,19 @@
 -- The cases of writing a record's bytes to lent room, and of equality, over any capacity.
 -- Assumes nothing.
 use mathlib.Core.Path.{_≡_, refl, sym, _∙_, ap}
-use mathlib.Core.Bool.{Bool, true, false, _&&_, false≢true, and-eq-true-iff}
-use mathlib.Core.List.{List, [], _∷_, _++_, append-assoc}
-use Prim.Native.Nat.{ℕ, zero, suc, _+_, _-_, _/_, _%_, _≤_, _<_}
+use mathlib.Core.Bool.{Bool, true, false, false≢true, and-eq-true-iff}
+use mathlib.Core.List.{List, [], _∷_, _++_}
+use Prim.Native.Nat.{ℕ, suc, _+_, _-_, _/_, _%_, _≤_, _<_}
 use native.Mathlib.Nat.{zero-add}
 use native.Mathlib.Omega.{arith}
 use borrow.Author.Tests.{le-leb, lt-leb, leb-true, eqb-true, eq-eqb}
 use lib.Dec.{eqb, leb}
-use lib.ListN.{length, take, drop, set, replicate, length-append, length-drop}
+use lib.ListN.{length, take, drop, set, replicate, length-drop}
 use lib.Seq.{length-take-le, drop-append-add, drop-drop}
 use Rattle.base.specs.Bytes.{bytes}
 use Rattle.base.specs.Said.{Said, gives, refuses, after, done, then}
 use Rattle.base.specs.Tpm2b.{tpm2b}
-use Rattle.base.proofs.Bytes.{length-bytes, two-bytes}
+use Rattle.base.proofs.Bytes.{two-bytes}
 use Rattle.base.proofs.Checks.{needs-gives, gives-injective}
 use Rattle.base.proofs.Lists.{stored}
 use Rattle.base.proofs.Tpm2b.{length-tpm2b}

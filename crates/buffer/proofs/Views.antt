@@ -1,19 +1,17 @@
 -- The cases of the view's reads, each from the tests that lead to it, over any capacity.
 -- Assumes nothing.
 use mathlib.Core.Path.{_≡_, refl, sym, _∙_, ap}
-use mathlib.Core.Bool.{Bool}
 use mathlib.Core.List.{List, [], _∷_}
 use Prim.Native.Nat.{ℕ, _+_, _-_, _≤_, _<_}
 use native.Mathlib.Omega.{arith}
 use borrow.Author.Tests.{le-leb, lt-leb, leb-true}
 use lib.Dec.{eqb, leb}
-use lib.ListN.{length, getD, take, drop, length-drop}
+use lib.ListN.{length, getD, length-drop}
 use lib.Seq.{take-all, length-take-le}
-use Rattle.base.specs.Answer.{Part}
 use Rattle.base.specs.Bytes.{number}
 use Rattle.base.specs.Said.{Said, gives, refuses, done}
 use Rattle.base.proofs.Checks.{needs-gives, then-gives, gives-injective, gives≢refuses}
-use Rattle.base.proofs.Lists.{span, take-drop-span}
+use Rattle.base.proofs.Lists.{take-drop-span}
 use Rattle.buffer.specs.View.{sizeOf, readSize, prefix, whole, viewPart, tailPart, dataRange, isEmpty}
 
 module _ (s : List ℕ) where

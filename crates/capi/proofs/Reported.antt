@@ -1,7 +1,7 @@
 -- From what a callee said to what is reported to C, for every call.
 -- Assumes nothing.
 use mathlib.Core.Path.{_≡_, _∙_, ap, subst}
-use mathlib.Core.List.{List, [], _∷_}
+use mathlib.Core.List.{List}
 use Prim.Native.Nat.{ℕ}
 use Rattle.base.specs.Said.{Said, gives, refuses}
 use Rattle.capi.specs.Out.{first, fields, returned, values, storedOver, Reports}

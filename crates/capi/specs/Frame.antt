@@ -6,7 +6,6 @@ use Rattle.base.specs.Answer.{Part}
 use Rattle.base.specs.Said.{Said, gives, refuses}
 use Rattle.table.specs.declared.row.Row.{Row}
 use Rattle.frame.specs.declared.command.Command.{Command}
-use Rattle.frame.specs.declared.part.Span.{Span}
 use Rattle.frame.specs.declared.response.Response.{Response}
 use Rattle.frame.specs.declared.session.Entries.{Entries}
 use Rattle.frame.specs.declared.session.Session.{Session}

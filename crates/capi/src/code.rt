@@ -1,5 +1,4 @@
 // The response code, of crate rc. A code goes out as the number of its kind, its base, the number of its part and its value.
-ghost use mathlib.Core.Path.{_≡_};
 ghost use Rattle.rc.specs.Code.{ofParts, readCode};
 ghost use Rattle.capi.specs.Code.{partsAndValue, value};
 ghost use Rattle.capi.specs.Out.{Reports};

@@ -1,5 +1,4 @@
 // The dispatch table and the tags, of crate table.
-ghost use mathlib.Core.Path.{_≡_};
 ghost use Rattle.base.specs.Members.{isIn};
 ghost use Rattle.base.specs.Said.{gives};
 ghost use Rattle.table.specs.Dispatch.{commandCodes, dispatch};

@@ -1,5 +1,4 @@
 // The TPM2B view, of buffer::view. A part goes out as its start and its end.
-ghost use mathlib.Core.Path.{_≡_};
 ghost use lib.ListN.{length};
 ghost use Rattle.base.specs.Said.{done, gives};
 ghost use Rattle.buffer.specs.View.{dataRange, isEmpty, prefix, readSize, whole};

@@ -7,12 +7,10 @@ use Prim.Native.Nat.{ℕ, _+_, _-_, _*_, _≤_, _<_}
 use native.Mathlib.Omega.{arith}
 use borrow.Author.Tests.{le-leb, lt-leb, leb-true}
 use lib.Dec.{eqb, leb}
-use lib.ListN.{length, take, length-take}
-use lib.Seq.{length-take-le}
-use Rattle.base.specs.Answer.{Part}
+use lib.ListN.{length, take}
 use Rattle.base.specs.Field.{readField}
 use Rattle.base.specs.Members.{isIn}
-use Rattle.base.specs.Said.{Said, gives, refuses, needs, then}
+use Rattle.base.specs.Said.{Said, gives, refuses, then}
 use Rattle.base.proofs.Checks.{passes, fails, goes-on, stops, needs-gives, then-gives, gives-injective, refuses-injective, gives≢refuses}
 use Rattle.table.specs.Table.{rowFor}
 use Rattle.table.specs.Tags.{tags}
@@ -22,9 +20,9 @@ use Rattle.frame.specs.declared.session.Session.{Session}
 use Rattle.frame.specs.declared.session.Entries.{Entries}
 use Rattle.frame.specs.Answer.{entriesByValue, span, commandByValue, responseByValue}
 use Rattle.frame.specs.Areas.{handleArea, sizedArea}
-use Rattle.frame.specs.Command.{Division, commandHandles, commandAreas, judgeCommand, castCommand, castCommandPrefix, readCommand}
-use Rattle.frame.specs.Header.{tagOf, codeOf, sessions, plain, header, readCc, readRc, framePrefix, frameWhole, readFrameTag}
-use Rattle.frame.specs.Response.{judgeResponse, castResponse, castResponsePrefix, errorAreas, successAreas, responseAreas, readResponse}
+use Rattle.frame.specs.Command.{Division, commandHandles, commandAreas, judgeCommand, castCommand}
+use Rattle.frame.specs.Header.{tagOf, codeOf, sessions, plain, readCc, frameWhole, readFrameTag}
+use Rattle.frame.specs.Response.{castResponse, errorAreas, successAreas, responseAreas}
 use Rattle.frame.specs.Walk.{walk, byValue}
 use Rattle.frame.proofs.FrameLaws.{sized-order, two-tags}
 use Rattle.frame.proofs.Walks.{field-there}

@@ -3,16 +3,16 @@
 use mathlib.Core.Path.{_≡_, refl, sym, _∙_, ap}
 use mathlib.Core.Bool.{Bool, true, false, _&&_, cond, and-eq-true-iff}
 use mathlib.Core.List.{List, [], _∷_}
-use Prim.Native.Nat.{ℕ, _+_, _-_, _≤_, _<_}
+use Prim.Native.Nat.{ℕ, _-_, _≤_, _<_}
 use native.Mathlib.Omega.{arith}
 use borrow.Author.Tests.{le-leb, lt-leb, leb-true}
 use lib.Dec.{leb}
-use lib.ListN.{length, getD, take, drop}
+use lib.ListN.{length, take, drop}
 use Rattle.base.specs.Answer.{Part}
 use Rattle.base.specs.Bytes.{number}
 use Rattle.base.specs.Field.{writeField}
 use Rattle.base.specs.Members.{isIn}
-use Rattle.base.specs.Said.{Said, gives, refuses, needs, then, given, done, after}
+use Rattle.base.specs.Said.{Said, gives, refuses, given, done, after}
 use Rattle.base.proofs.Checks.{passes, fails, goes-on, stops, needs-gives, then-gives, gives-injective}
 use Rattle.base.proofs.Lists.{span, take-drop-span}
 use Rattle.rc.specs.Code.{readCode, readFmt0}
@@ -192,9 +192,6 @@ module _ (s : List ℕ) {said : Said Part} where
     ap (λ (t : Bool). cond t (take (to - from) (drop from s)) []) (sym outside) ∙ ap (λ (x : Said Part). partIn x s) e,
     ap (λ (t : Bool). cond t (drop to s) []) (sym outside) ∙ ap (λ (x : Said Part). tailIn x s) e,
   )
-
-  pub refused-part : {why : List ℕ} → refuses why ≡ said → ([] ≡ partIn said s) × ([] ≡ tailIn said s)
-  refused-part e = (ap (λ (x : Said Part). partIn x s) e, ap (λ (x : Said Part). tailIn x s) e)
 
 pub fits-within : (from to len : ℕ) → (leb from to && leb to len) ≡ true → (from ≤ to) × (to ≤ len)
 fits-within from to len e =

@@ -1,7 +1,7 @@
 -- The starred rows of document 01's worked frames, together: what the definitions say of each, at the port's table.
 -- Assumes nothing.
 use mathlib.Core.Path.{_≡_, refl}
-use mathlib.Core.List.{List, [], _∷_, _++_}
+use mathlib.Core.List.{List, [], _∷_}
 use Prim.Native.Nat.{ℕ}
 use Rattle.base.specs.Bytes.{number, bytes}
 use Rattle.base.specs.Said.{gives, refuses}
@@ -13,7 +13,7 @@ use Rattle.table.specs.Dispatch.{dispatch, commandCodes}
 use Rattle.table.specs.Tags.{tags}
 use Rattle.frame.specs.declared.areas.Areas.{Areas}
 use Rattle.frame.specs.Areas.{handleArea, sizedArea}
-use Rattle.frame.specs.Command.{Division, commandHandles, commandAreas, judgeCommand, castCommand, readCommand}
+use Rattle.frame.specs.Command.{commandHandles, commandAreas, judgeCommand, castCommand, readCommand}
 use Rattle.frame.specs.Header.{tagOf, sizeOf, codeOf, readCc, readRc, framePrefix, frameWhole, readFrameTag}
 use Rattle.frame.specs.Response.{judgeResponse, castResponse, errorAreas, successAreas, responseAreas, readResponse}
 use Rattle.frame.specs.Walk.{readTpm2b, readSigned, readEntry, walk}

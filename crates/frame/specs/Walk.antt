@@ -8,7 +8,6 @@ use lib.Dec.{leb}
 use lib.ListN.{length, getD}
 use Rattle.base.specs.Field.{readField}
 use Rattle.base.specs.Said.{Said, gives, needs, then}
-use Rattle.frame.specs.declared.session.Field.{Field}
 use Rattle.frame.specs.declared.session.Session.{Session}
 use Rattle.frame.specs.declared.session.Entries.{Entries}
 

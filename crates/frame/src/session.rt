@@ -1,5 +1,4 @@
 // An entry of an authorization area by value: its nonce and its HMAC are told by where they stand.
-use base::error::TpmError;
 
 // Bytes by their place and their count.
 pub struct Field {

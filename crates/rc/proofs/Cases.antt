@@ -1,14 +1,12 @@
 -- The cases of the reading of a code, each from the tests that lead to it.
 -- Assumes nothing.
-use mathlib.Core.Path.{_≡_, refl, sym, _∙_, ap}
+use mathlib.Core.Path.{_≡_}
 use mathlib.Core.Bool.{Bool, true, false, _&&_, cond}
 use mathlib.Core.List.{[], _∷_}
 use Prim.Native.Nat.{ℕ, _+_, _-_, _/_, _%_, _≤_, _<_}
 use native.Mathlib.Omega.{arith}
 use borrow.Author.Tests.{lt-ltb, le-ltb, eq-eqb, ne-eqb}
-use lib.Dec.{eqb, ltb}
-use Rattle.base.specs.Said.{Said, gives, refuses}
-use Rattle.rc.specs.declared.code.Code.{Code}
+use Rattle.base.specs.Said.{gives, refuses}
 use Rattle.rc.specs.declared.code.Code.the-variants.{Fmt0, Warn, Fmt1, Parameter, Handle, Session}
 use Rattle.rc.specs.Known.{isKnown}
 use Rattle.rc.specs.Code.{bit, base, readIndex, readFmt1, readFmt0, readCode}

@@ -1,7 +1,7 @@
 -- The table's rule: the bit of each code below 2,368 says whether the code is known, and no known code stands above.
 -- One test is computed over the whole table, and one over the list of known codes.
 -- Assumes nothing.
-use mathlib.Core.Path.{_≡_, refl, sym, _∙_}
+use mathlib.Core.Path.{_≡_, refl}
 use mathlib.Core.Bool.{Bool, true, false, Bool·beq}
 use mathlib.Core.List.{List, [], _∷_}
 use Prim.Native.Nat.{ℕ, _/_, _%_, _^_, _≤_, _<_}

@@ -1,6 +1,6 @@
 -- `buffer::room::grow` meets its contract: each return is the case of the definition to which its tests lead.
 -- Assumes nothing.
-use mathlib.Core.Path.{ap, _∙_}
+use mathlib.Core.Path.{ap}
 use borrow.Author.Tests.{le-leb, lt-leb}
 use Rattle.base.specs.Error.{numbered}
 use Rattle.base.specs.Said.{refuses}

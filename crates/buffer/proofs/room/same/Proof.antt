@@ -2,7 +2,7 @@
 -- Assumes nothing.
 use mathlib.Core.Path.{sym, _∙_, ap}
 use native.Mathlib.Omega.{arith}
-use lib.ListN.{length, take}
+use lib.ListN.{length}
 use denote.Ref.{now}
 use Rattle.base.specs.Said.{gives}
 use Rattle.buffer.proofs.Rooms.{length-held, equal-left, equal-right, equal-read, same-test}

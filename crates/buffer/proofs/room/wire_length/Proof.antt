@@ -1,6 +1,6 @@
 -- `buffer::room::wire_length` meets its contract: the test decides as the definition does.
 -- Assumes nothing.
-use mathlib.Core.Path.{ap, _∙_}
+use mathlib.Core.Path.{ap}
 use borrow.Author.Tests.{le-leb, lt-leb}
 use Rattle.base.specs.Error.{numbered}
 use Rattle.base.specs.Said.{refuses}

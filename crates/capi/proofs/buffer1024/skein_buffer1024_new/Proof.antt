@@ -1,6 +1,6 @@
 -- `capi::buffer1024::skein_buffer1024_new` meets its contract: it lays down what `new` gave.
 -- Assumes nothing.
-use mathlib.Core.Path.{refl, sym, ap}
+use mathlib.Core.Path.{ap}
 use Rattle.base.specs.Said.{gives}
 use Rattle.buffer.specs.Fixed.{Buffer}
 use Rattle.capi.specs.Buffer.{sizeAlone}

@@ -2,7 +2,6 @@
 -- Assumes nothing.
 use mathlib.Core.Path.{_≡_, refl, sym, ap}
 use mathlib.Core.Bool.{Bool, true, false, cond}
-use Prim.Native.Nat.{ℕ}
 use mir.Val.{boolByte}
 use Rattle.base.specs.Answer.{saidFlag}
 use Rattle.capi.specs.Out.{truth}

@@ -1,8 +1,7 @@
 -- `capi::tpm2b::skein_tpm2b_cast_prefix` meets its contract: where `validate_prefix` passed, the view and the tail are the bytes.
 -- Assumes nothing.
-use mathlib.Core.Path.{_≡_, sym, _∙_, ap}
+use mathlib.Core.Path.{_≡_, _∙_, ap}
 use Prim.Native.Nat.{_+_}
-use native.Mathlib.Omega.{arith}
 use lib.ListN.{length}
 use denote.Ref.{now}
 use Rattle.base.specs.Answer.{saidCount}

@@ -4,7 +4,6 @@ use mathlib.Core.Path.{ap, sym, _∙_}
 use native.Mathlib.Omega.{arith}
 use denote.Ref.{now}
 use Rattle.base.specs.Said.{refuses}
-use Rattle.frame.specs.Header.{tagOf}
 use Rattle.frame.specs.Command.{commandHandles, commandAreas}
 use Rattle.base.specs.Answer.{saidCount}
 use Rattle.table.specs.Dispatch.{dispatch, commandCodes}

@@ -5,7 +5,6 @@ use denote.Ref.{now}
 use Rattle.frame.specs.Header.{frameWhole}
 use Rattle.frame.specs.Command.{castCommand}
 use Rattle.base.specs.Answer.{saidCount}
-use Rattle.table.specs.Dispatch.{dispatch, commandCodes}
 use Rattle.base.proofs.Answers.{learnt}
 use Rattle.base.proofs.Checks.{goes-on, stops}
 use borrow.Author.Needs.{needs}

@@ -2,10 +2,8 @@
 -- Assumes nothing.
 use mathlib.Core.Path.{sym, _∙_, ap}
 use denote.Ref.{now}
-use Prim.Native.Nat.{ℕ}
 use lib.ListN.{take}
 use lib.Seq.{length-take-le}
-use Rattle.base.specs.Said.{Said}
 use Rattle.frame.specs.Header.{framePrefix}
 use Rattle.frame.specs.Command.{judgeCommand, castCommandPrefix}
 use Rattle.base.specs.Answer.{saidCount}

@@ -1,7 +1,6 @@
 -- `frame::command::cc` meets its contract: the header is read byte by byte, and a code that TpmCc lacks is refused.
 -- Assumes nothing.
 use mathlib.Core.Path.{ap, sym, _∙_}
-use native.Mathlib.Omega.{arith}
 use denote.Ref.{now}
 use Rattle.base.specs.Said.{refuses}
 use Rattle.frame.specs.Header.{readCc}

@@ -1,12 +1,10 @@
 -- `frame::command::handles_end` meets its contract: the row is looked for first: a code that has one is known.
 -- Assumes nothing.
 use mathlib.Core.Path.{ap, sym, _∙_}
-use native.Mathlib.Omega.{arith}
 use denote.Ref.{now}
 use Rattle.base.specs.Said.{refuses}
 use Rattle.frame.specs.Header.{readCc}
 use Rattle.frame.specs.Command.{commandHandles}
-use Rattle.base.specs.Answer.{saidCount}
 use Rattle.table.specs.Dispatch.{dispatch, commandCodes}
 use Rattle.table.specs.Table.{rowFor, saidFound}
 use Rattle.table.proofs.Table.{row-known}

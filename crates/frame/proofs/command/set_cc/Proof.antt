@@ -1,6 +1,6 @@
 -- `frame::command::set_cc` meets its contract: a code without a row is refused and changes nothing, and another is written as a field.
 -- Assumes nothing.
-use mathlib.Core.Path.{ap, sym, _∙_}
+use mathlib.Core.Path.{ap, _∙_}
 use denote.Ref.{now}
 use Rattle.base.specs.Said.{refuses}
 use Rattle.frame.specs.Header.{setCc}

@@ -1,7 +1,6 @@
 -- `frame::header::frame_prefix` meets its contract: each return is the case of the definition to which its tests lead.
 -- Assumes nothing.
-use mathlib.Core.Path.{ap, sym, _∙_}
-use native.Mathlib.Omega.{arith}
+use mathlib.Core.Path.{ap, _∙_}
 use denote.Ref.{now}
 use Rattle.base.specs.Said.{refuses}
 use Rattle.frame.specs.Header.{framePrefix}

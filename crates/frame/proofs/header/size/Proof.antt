@@ -1,7 +1,6 @@
 -- `frame::header::size` meets its contract: the header is read byte by byte.
 -- Assumes nothing.
-use mathlib.Core.Path.{ap, sym, _∙_}
-use native.Mathlib.Omega.{arith}
+use mathlib.Core.Path.{ap, _∙_}
 use denote.Ref.{now}
 use Rattle.base.specs.Said.{refuses}
 use Rattle.frame.specs.Header.{readSize}

@@ -4,7 +4,7 @@ use mathlib.Core.Path.{refl, sym, _∙_}
 use denote.Ref.{now}
 use Rattle.base.specs.Answer.{saidRange}
 use Rattle.base.proofs.Answers.{learnt}
-use Rattle.frame.proofs.Headers.{part-read, no-part, refused-part, fits-within}
+use Rattle.frame.proofs.Headers.{part-read, no-part, fits-within}
 use borrow.Author.Needs.{needs}
 use Rattle.frame.proofs.part.part_mut.Statement.{statement}
 use Rattle.frame.proofs.part.part_mut.Tie as tie

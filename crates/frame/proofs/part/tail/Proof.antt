@@ -5,7 +5,7 @@ use denote.Ref.{now}
 use Rattle.base.specs.Answer.{saidRange}
 use Rattle.base.proofs.Answers.{learnt}
 use Rattle.base.proofs.Lists.{take-rest}
-use Rattle.frame.proofs.Headers.{tail-read, no-part, refused-part, fits-within}
+use Rattle.frame.proofs.Headers.{tail-read, no-part, fits-within}
 use borrow.Author.Needs.{needs}
 use Rattle.frame.proofs.part.tail.Statement.{statement}
 use Rattle.frame.proofs.part.tail.Tie as tie

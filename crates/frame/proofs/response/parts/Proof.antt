@@ -1,7 +1,7 @@
 -- `frame::response::parts` meets its contract: it goes by what the areas and the walk said; tag and code are read byte by byte.
 -- Assumes nothing.
 use Rattle.frame.proofs.Divisions.{responseEntries, areas-refused, walk-refused, walk-read, response-by-value, read-header}
-use mathlib.Core.Path.{ap, _∙_, sym}
+use mathlib.Core.Path.{ap, _∙_}
 use denote.Ref.{now}
 use Rattle.frame.specs.Answer.{saidAreas, saidWalked}
 use Rattle.table.specs.Dispatch.{dispatch}

@@ -1,6 +1,6 @@
 -- `frame::response::rc` meets its contract: the header is read byte by byte; success reads, and a code that does not read is refused.
 -- Assumes nothing.
-use mathlib.Core.Path.{refl, ap, sym, _∙_}
+use mathlib.Core.Path.{ap, sym, _∙_}
 use denote.Ref.{now}
 use Rattle.base.specs.Said.{refuses, given}
 use Rattle.rc.specs.Code.{saidCode}

@@ -1,7 +1,7 @@
 -- `frame::response::validate` meets its contract: it goes by what the areas and the walk said.
 -- Assumes nothing.
 use Rattle.frame.proofs.Divisions.{responseEntries, areas-refused, walk-refused, walk-read}
-use mathlib.Core.Path.{ap, _∙_, sym}
+use mathlib.Core.Path.{ap}
 use denote.Ref.{now}
 use Rattle.frame.specs.Answer.{saidAreas, saidWalked}
 use Rattle.table.specs.Dispatch.{dispatch}
