@@ -28,12 +28,12 @@ pub extern "C" fn skein_table_find(code: u32, out: &mut Numbers) -> u32
 pub extern "C" fn skein_table_known(code: u32, out: &mut Numbers) -> u32
     ensures { λ r. ⌜ Reports truth (gives (isIn code commandCodes)) (now (out .entry)) (now (out .exit)) r ⌝ }
 {
-    out::flag(Flag::Is(table::dispatch::known(TpmCc(code))), out)
+    out::flag(Flag::Is(table::dispatch::cc_known(TpmCc(code))), out)
 }
 
 #[no_mangle]
 pub extern "C" fn skein_tag_known(tag: u16, out: &mut Numbers) -> u32
     ensures { λ r. ⌜ Reports truth (gives (isIn tag tags)) (now (out .entry)) (now (out .exit)) r ⌝ }
 {
-    out::flag(Flag::Is(table::tag::known(TpmSt(tag))), out)
+    out::flag(Flag::Is(table::tag::tag_known(TpmSt(tag))), out)
 }

@@ -32,10 +32,10 @@ use base::error::TpmError;
 use base::field::be16;
 use base::field::be32;
 use base::field::write_u32;
+use table::dispatch::cc_known;
 use table::dispatch::find;
-use table::dispatch::known;
 use table::row::Found;
-use table::tag;
+use table::tag::tag_known;
 
 // A passing command by value: its areas by where they stand, its entries by their count and the first three.
 pub struct Command {
@@ -62,7 +62,7 @@ pub fn cc(s: &[u8]) -> Number32
         return Number32::Refused(short(s.len()));
     }
     let cc = TpmCc(be32(s[6], s[7], s[8], s[9]));
-    if known(cc) {
+    if cc_known(cc) {
         Number32::Is(cc.0)
     } else {
         Number32::Refused(cc.refused(6))
@@ -96,7 +96,7 @@ fn handles_end(s: &[u8]) -> Count
     match find(cc) {
         Found::Is(row) => handle_area(row.handles, s),
         Found::Refused(e) => {
-            if known(cc) {
+            if cc_known(cc) {
                 Count::Refused(e)
             } else {
                 Count::Refused(cc.refused(6))
@@ -112,7 +112,7 @@ fn areas(s: &[u8]) -> Divided
         Count::Refused(e) => Divided::Refused(e),
         Count::Is(handles) => {
             let tag = TpmSt(be16(s[0], s[1]));
-            if tag::known(tag) {
+            if tag_known(tag) {
                 sized_area(tag.0 == 0x8002, handles, s, handles)
             } else {
                 Divided::Refused(tag.refused(0))

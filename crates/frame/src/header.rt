@@ -16,7 +16,7 @@ use base::error::TpmError;
 use base::field::be16;
 use base::field::be32;
 use base::field::write_u16;
-use table::tag::known;
+use table::tag::tag_known;
 
 // The refusal of bytes that have no whole header.
 pub(crate) fn short(len: usize) -> TpmError
@@ -37,7 +37,7 @@ pub fn tag(s: &[u8]) -> Number16
         return Number16::Refused(short(s.len()));
     }
     let tag = TpmSt(be16(s[0], s[1]));
-    if known(tag) {
+    if tag_known(tag) {
         Number16::Is(tag.0)
     } else {
         Number16::Refused(tag.refused(0))
@@ -84,7 +84,7 @@ pub fn set_tag(s: &mut [u8], tag: TpmSt) -> Outcome
     if s.len() < 10 {
         return Outcome::Refused(short(s.len()));
     }
-    if known(tag) {
+    if tag_known(tag) {
         write_u16(s, 0, tag.0)
     } else {
         Outcome::Refused(tag.refused(0))

@@ -7,8 +7,8 @@ use Rattle.base.proofs.Answers.{injective-by, unsaid}
 use Rattle.rc.specs.declared.code.Answer.{Answer}
 use Rattle.rc.specs.declared.code.Answer.the-variants as answer
 use Rattle.rc.specs.Code.{saidCode}
-use Rattle.rc.proofs.known.known.Kinds as known-kinds
-use Rattle.rc.proofs.known.known.Reads as known-reads
+use Rattle.rc.proofs.known.base_known.Kinds as base-known-kinds
+use Rattle.rc.proofs.known.base_known.Reads as base-known-reads
 use Rattle.rc.proofs.code.read.Kinds as read-kinds
 use Rattle.rc.proofs.code.read.Reads as read-reads
 use Rattle.rc.proofs.code.Code.value.Kinds as value-kinds
@@ -29,8 +29,8 @@ told (answer.Refused e) = ap answer.Refused (named-numbered e)
 pub saidCode-injective : (a b : Answer) → saidCode a ≡ saidCode b → a ≡ b
 saidCode-injective = injective-by saidCode (unsaid answer.Code answer.Refused) told
 
-known : Single 0 known-kinds.ps known-kinds.r known-reads.Post
-known κs a x y v w p q = (p ∙ sym q, refl)
+base-known : Single 0 base-known-kinds.ps base-known-kinds.r base-known-reads.Post
+base-known κs a x y v w p q = (p ∙ sym q, refl)
 
 read : Single 0 read-kinds.ps read-kinds.r read-reads.Post
 read κs a x y v w p q = (saidCode-injective x y (p ∙ sym q), refl)

@@ -3,7 +3,7 @@ ghost use mathlib.Core.Path.{_≡_};
 ghost use mathlib.Core.Bool.{_&&_};
 ghost use Prim.Native.Nat.{_*_, _%_};
 ghost use Rattle.rc.specs.Code.{baseOf, bit, indexOf, kindOf, ofParts, readCode, readFmt1, saidCode, valueOf};
-use crate::known::known;
+use crate::known::base_known;
 use base::code::TpmRc;
 use base::error::TpmError;
 
@@ -34,7 +34,7 @@ pub fn read(rc: TpmRc) -> Answer
     if is_fmt1(value) {
         return read_fmt1(rc);
     }
-    if !known(value) {
+    if !base_known(value) {
         return Answer::Refused(rc.refused(0));
     }
     if is_warning(value) {
@@ -67,7 +67,7 @@ fn read_fmt1(rc: TpmRc) -> Answer
         return Answer::Refused(rc.refused(0));
     }
     let base = 128 + value % 64;
-    if !known(base) {
+    if !base_known(base) {
         return Answer::Refused(rc.refused(0));
     }
     let n = (value / 256 % 16) as u8;

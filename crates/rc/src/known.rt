@@ -43,7 +43,7 @@ const KNOWN: [u64; 37] = [
 ];
 
 // Whether a code is a known base code.
-pub fn known(code: u32) -> bool
+pub fn base_known(code: u32) -> bool
     ensures { λ r. ⌜ r ≡ isKnown code ⌝ }
 {
     if code >= 2368 {

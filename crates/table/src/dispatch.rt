@@ -296,7 +296,7 @@ pub fn find(cc: TpmCc) -> Found
 }
 
 // Whether TpmCc has a code.
-pub fn known(cc: TpmCc) -> bool
+pub fn cc_known(cc: TpmCc) -> bool
     ensures { λ r. ⌜ r ≡ isIn (cc .0) commandCodes ⌝ }
 {
     match find(cc) {

@@ -8,7 +8,7 @@ use base::code::TpmSt;
 const FROM_8000: u64 = 0x0000_003e_17f0_0007;
 
 // Whether TpmSt has a tag.
-pub fn known(st: TpmSt) -> bool
+pub fn tag_known(st: TpmSt) -> bool
     ensures { λ r. ⌜ r ≡ isIn (st .0) tags ⌝ }
 {
     let tag = st.0;

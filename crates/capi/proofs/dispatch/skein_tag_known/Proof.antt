@@ -1,4 +1,4 @@
--- `capi::dispatch::skein_tag_known` meets its contract: it reports what `known` said.
+-- `capi::dispatch::skein_tag_known` meets its contract: it reports what `tag_known` said.
 -- Assumes nothing.
 use mathlib.Core.Path.{ap}
 use Rattle.base.specs.Said.{gives}
@@ -7,14 +7,14 @@ use borrow.Author.Needs.{needs}
 use Rattle.capi.proofs.dispatch.skein_tag_known.Statement.{statement}
 use Rattle.capi.proofs.dispatch.skein_tag_known.Tie as tie
 
-known-requires : tie.Need-known-requires
-known-requires c κs = search needs
+tag-known-requires : tie.Need-tag-known-requires
+tag-known-requires c κs = search needs
 
 flag-requires : tie.Need-flag-requires
 flag-requires c κs = search needs
 
 returns : tie.Need-returns
-returns c = as-said (ap gives (c .before .before .known .ensures)) (c .flag .ensures)
+returns c = as-said (ap gives (c .before .before .tag-known .ensures)) (c .flag .ensures)
 
 pub skein-tag-known-spec : {M : Type 1} → statement M
-skein-tag-known-spec = tie.close (tie.spec known-requires flag-requires returns)
+skein-tag-known-spec = tie.close (tie.spec tag-known-requires flag-requires returns)

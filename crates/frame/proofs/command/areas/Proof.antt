@@ -33,8 +33,8 @@ shared-slice-read-be16-2 c = let ten = command-header dispatch commandCodes (now
 be16-requires : tie.Need-be16-requires
 be16-requires c κs = search needs
 
-known-requires : tie.Need-known-requires
-known-requires c κs = search needs
+tag-known-requires : tie.Need-tag-known-requires
+tag-known-requires c κs = search needs
 
 sized-area-requires : tie.Need-sized-area-requires
 sized-area-requires c κs = search needs
@@ -52,7 +52,7 @@ returns-2 c =
     let handles = learnt saidCount (c .before .before .before .before .before .before .before .before .handles .given .1) (c .before .before .before .before .before .before .before .before .before .before .handles-end .ensures) in
     let ten = command-header dispatch commandCodes s handles .0 in
     c .sized-area .ensures
-    ∙ areas-sized dispatch commandCodes s handles (c .before .before .before .before .be16 .ensures ∙ tag-bytes s ten) (sym (c .before .before .before .known .ensures) ∙ c .before .before .if1 .taken)
+    ∙ areas-sized dispatch commandCodes s handles (c .before .before .before .before .be16 .ensures ∙ tag-bytes s ten) (sym (c .before .before .before .tag-known .ensures) ∙ c .before .before .if1 .taken)
 
 returns-3 : tie.Need-returns-3
 returns-3 c =
@@ -60,7 +60,7 @@ returns-3 c =
     let handles = learnt saidCount (c .before .before .before .before .before .before .before .handles .given .1) (c .before .before .before .before .before .before .before .before .before .handles-end .ensures) in
     let ten = command-header dispatch commandCodes s handles .0 in
     ap refuses (c .refused .ensures)
-    ∙ areas-tag-refused dispatch commandCodes s handles (c .before .before .before .be16 .ensures ∙ tag-bytes s ten) (sym (c .before .before .known .ensures) ∙ c .before .if1 .left)
+    ∙ areas-tag-refused dispatch commandCodes s handles (c .before .before .before .be16 .ensures ∙ tag-bytes s ten) (sym (c .before .before .tag-known .ensures) ∙ c .before .if1 .left)
 
 pub areas-spec : {M : Type 1} → statement M
 areas-spec =
@@ -72,7 +72,7 @@ areas-spec =
     shared-slice-read-be16
     shared-slice-read-be16-2
     be16-requires
-    known-requires
+    tag-known-requires
     sized-area-requires
     refused-requires
     returns

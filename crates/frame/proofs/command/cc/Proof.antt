@@ -31,8 +31,8 @@ shared-slice-read-be32-4 c = search needs
 be32-requires : tie.Need-be32-requires
 be32-requires c κs = search needs
 
-known-requires : tie.Need-known-requires
-known-requires c κs = search needs
+cc-known-requires : tie.Need-cc-known-requires
+cc-known-requires c κs = search needs
 
 refused-requires : tie.Need-refused-requires
 refused-requires c κs = search needs
@@ -41,13 +41,13 @@ returns-2 : tie.Need-returns-2
 returns-2 c =
     let s = now (c .before .before .before .before .before .before .before .before .before .args .s) in
     let ten = c .before .before .before .before .before .before .before .if1 .left in
-    cc-read s _ _ (c .before .before .be32 .ensures ∙ code-bytes s ten) ten (sym (c .before .known .ensures) ∙ c .if2 .taken)
+    cc-read s _ _ (c .before .before .be32 .ensures ∙ code-bytes s ten) ten (sym (c .before .cc-known .ensures) ∙ c .if2 .taken)
 
 returns-3 : tie.Need-returns-3
 returns-3 c =
     let s = now (c .before .before .before .before .before .before .before .before .before .before .args .s) in
     let ten = c .before .before .before .before .before .before .before .before .if1 .left in
-    ap refuses (c .refused .ensures) ∙ cc-refused s _ _ (c .before .before .before .be32 .ensures ∙ code-bytes s ten) ten (sym (c .before .before .known .ensures) ∙ c .before .if2 .left)
+    ap refuses (c .refused .ensures) ∙ cc-refused s _ _ (c .before .before .before .be32 .ensures ∙ code-bytes s ten) ten (sym (c .before .before .cc-known .ensures) ∙ c .before .if2 .left)
 
 pub cc-spec : {M : Type 1} → statement M
 cc-spec =
@@ -60,7 +60,7 @@ cc-spec =
     shared-slice-read-be32-3
     shared-slice-read-be32-4
     be32-requires
-    known-requires
+    cc-known-requires
     refused-requires
     returns-2
     returns-3)

@@ -49,8 +49,8 @@ handle-area-requires c κs = search needs
 enum-known-e : tie.Need-enum-known-e
 enum-known-e c = search needs
 
-known-requires : tie.Need-known-requires
-known-requires c κs = search needs
+cc-known-requires : tie.Need-cc-known-requires
+cc-known-requires c κs = search needs
 
 refused-requires : tie.Need-refused-requires
 refused-requires c κs = search needs
@@ -73,7 +73,7 @@ returns-3 c =
     let ten = c .before .before .before .before .before .before .before .before .before .before .before .if1 .left in
     let is = c .before .before .before .before .before .before .be32 .ensures ∙ code-bytes s ten in
     stops (rowFor dispatch _) _ (learnt saidFound (c .before .before .before .e .given .1) (c .before .before .before .before .before .find .ensures))
-    ∙ goes-on (readCc commandCodes s) _ (cc-read s _ commandCodes is ten (sym (c .before .known .ensures) ∙ c .if2 .taken))
+    ∙ goes-on (readCc commandCodes s) _ (cc-read s _ commandCodes is ten (sym (c .before .cc-known .ensures) ∙ c .if2 .taken))
 
 returns-4 : tie.Need-returns-4
 unfolding commandHandles
@@ -82,7 +82,7 @@ returns-4 c =
     let ten = c .before .before .before .before .before .before .before .before .before .before .before .before .if1 .left in
     let is = c .before .before .before .before .before .before .before .be32 .ensures ∙ code-bytes s ten in
     ap refuses (c .refused .ensures)
-    ∙ stops (readCc commandCodes s) _ (cc-refused s _ commandCodes is ten (sym (c .before .before .known .ensures) ∙ c .before .if2 .left))
+    ∙ stops (readCc commandCodes s) _ (cc-refused s _ commandCodes is ten (sym (c .before .before .cc-known .ensures) ∙ c .before .if2 .left))
 
 pub handles-end-spec : {M : Type 1} → statement M
 handles-end-spec =
@@ -99,7 +99,7 @@ handles-end-spec =
     enum-known-row
     handle-area-requires
     enum-known-e
-    known-requires
+    cc-known-requires
     refused-requires
     returns-2
     returns-3

@@ -18,8 +18,8 @@ returns c =
     let s = now (c .before .before .before .args .s) in
     refused-set s (ap refuses (c .short .ensures) ∙ short-header s _ (c .before .if1 .taken))
 
-known-requires : tie.Need-known-requires
-known-requires c κs = search needs
+tag-known-requires : tie.Need-tag-known-requires
+tag-known-requires c κs = search needs
 
 write-u16-requires : tie.Need-write-u16-requires
 write-u16-requires c κs = search needs
@@ -33,13 +33,13 @@ same-length c = search needs
 returns-2 : tie.Need-returns-2
 returns-2 c =
     let s = now (c .before .before .before .before .before .before .before .before .args .s) in
-    let by = set-by s (tag-set s _ (c .before .before .before .before .before .before .if1 .left) (sym (c .before .before .before .before .before .known .ensures) ∙ c .before .before .before .before .if2 .taken)) in
+    let by = set-by s (tag-set s _ (c .before .before .before .before .before .before .if1 .left) (sym (c .before .before .before .before .before .tag-known .ensures) ∙ c .before .before .before .before .if2 .taken)) in
     (c .before .before .write-u16 .ensures .0 ∙ by .0, c .before .before .write-u16 .ensures .1 ∙ by .1)
 
 returns-3 : tie.Need-returns-3
 returns-3 c =
     let s = now (c .before .before .before .before .before .args .s) in
-    refused-set s (ap refuses (c .refused .ensures) ∙ tag-not-set s _ (c .before .before .before .if1 .left) (sym (c .before .before .known .ensures) ∙ c .before .if2 .left))
+    refused-set s (ap refuses (c .refused .ensures) ∙ tag-not-set s _ (c .before .before .before .if1 .left) (sym (c .before .before .tag-known .ensures) ∙ c .before .if2 .left))
 
 pub set-tag-spec : {M : Type 1} → statement M
 set-tag-spec =
@@ -47,7 +47,7 @@ set-tag-spec =
     (tie.spec
     short-requires
     returns
-    known-requires
+    tag-known-requires
     write-u16-requires
     refused-requires
     same-length

@@ -25,8 +25,8 @@ shared-slice-read-be16-2 c = search needs
 be16-requires : tie.Need-be16-requires
 be16-requires c κs = search needs
 
-known-requires : tie.Need-known-requires
-known-requires c κs = search needs
+tag-known-requires : tie.Need-tag-known-requires
+tag-known-requires c κs = search needs
 
 refused-requires : tie.Need-refused-requires
 refused-requires c κs = search needs
@@ -35,13 +35,13 @@ returns-2 : tie.Need-returns-2
 returns-2 c =
     let s = now (c .before .before .before .before .before .before .before .args .s) in
     let ten = c .before .before .before .before .before .if1 .left in
-    tag-read s _ (c .before .before .be16 .ensures ∙ tag-bytes s ten) ten (sym (c .before .known .ensures) ∙ c .if2 .taken)
+    tag-read s _ (c .before .before .be16 .ensures ∙ tag-bytes s ten) ten (sym (c .before .tag-known .ensures) ∙ c .if2 .taken)
 
 returns-3 : tie.Need-returns-3
 returns-3 c =
     let s = now (c .before .before .before .before .before .before .before .before .args .s) in
     let ten = c .before .before .before .before .before .before .if1 .left in
-    ap refuses (c .refused .ensures) ∙ tag-refused s _ (c .before .before .before .be16 .ensures ∙ tag-bytes s ten) ten (sym (c .before .before .known .ensures) ∙ c .before .if2 .left)
+    ap refuses (c .refused .ensures) ∙ tag-refused s _ (c .before .before .before .be16 .ensures ∙ tag-bytes s ten) ten (sym (c .before .before .tag-known .ensures) ∙ c .before .if2 .left)
 
 pub tag-spec : {M : Type 1} → statement M
 tag-spec =
@@ -52,7 +52,7 @@ tag-spec =
     shared-slice-read-be16
     shared-slice-read-be16-2
     be16-requires
-    known-requires
+    tag-known-requires
     refused-requires
     returns-2
     returns-3)

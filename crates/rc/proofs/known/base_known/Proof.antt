@@ -1,9 +1,9 @@
--- `rc::known::known` meets its contract: the table's rule at the code.
+-- `rc::known::base_known` meets its contract: the table's rule at the code.
 -- Assumes nothing.
 use Rattle.rc.proofs.Table.{bit-known, not-known}
 use borrow.Author.Needs.{needs}
-use Rattle.rc.proofs.known.known.Statement.{statement}
-use Rattle.rc.proofs.known.known.Tie as tie
+use Rattle.rc.proofs.known.base_known.Statement.{statement}
+use Rattle.rc.proofs.known.base_known.Tie as tie
 
 returns : tie.Need-returns
 returns c = not-known _ (c .if1 .taken)
@@ -26,7 +26,7 @@ shr-result c = search needs
 returns-2 : tie.Need-returns-2
 returns-2 c = bit-known _ (c .if1 .left)
 
-pub known-spec : {M : Type 1} → statement M
-known-spec =
+pub base-known-spec : {M : Type 1} → statement M
+base-known-spec =
     tie.close
     (tie.spec returns cast-word mul-word array-read-word cast-result shr-result returns-2)

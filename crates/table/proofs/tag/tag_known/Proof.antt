@@ -1,11 +1,11 @@
--- `table::tag::known` meets its contract: the rules of the tags, and that the code's bits agree with them, which antt computes.
+-- `table::tag::tag_known` meets its contract: the rules of the tags, and that the code's bits agree with them, which antt computes.
 -- Assumes nothing.
 use mathlib.Core.Path.{refl}
 use borrow.Author.Needs.{needs}
 use Rattle.table.specs.Tags.{tags}
 use Rattle.table.proofs.Tags.{bit-known, low-known, high-known}
-use Rattle.table.proofs.tag.known.Statement.{statement}
-use Rattle.table.proofs.tag.known.Tie as tie
+use Rattle.table.proofs.tag.tag_known.Statement.{statement}
+use Rattle.table.proofs.tag.tag_known.Tie as tie
 
 returns : tie.Need-returns
 returns c = low-known _ (c .if1 .taken)
@@ -23,5 +23,5 @@ returns-3 : tie.Need-returns-3
 unfolding tags
 returns-3 c = bit-known _ _ (c .before .if1 .left) (c .if2 .left) refl
 
-pub known-spec : {M : Type 1} → statement M
-known-spec = tie.close (tie.spec returns returns-2 cast-result shr-result returns-3)
+pub tag-known-spec : {M : Type 1} → statement M
+tag-known-spec = tie.close (tie.spec returns returns-2 cast-result shr-result returns-3)
