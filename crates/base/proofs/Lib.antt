@@ -1,7 +1,10 @@
 pub mod Answers
 pub mod Bytes
 pub mod Checks
+pub mod Handing
+pub mod Lending
 pub mod Lists
+pub mod Parts
 pub mod Places
 pub mod Refusals
 pub mod Single

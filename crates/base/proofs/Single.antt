@@ -1,9 +1,11 @@
 -- Each public function of base leaves a single answer and a single later state of what was lent (specs/Single.antt).
 -- Assumes nothing.
 use mathlib.Core.Path.{refl, sym, _∙_}
-use Rattle.base.specs.Single.{Single}
+use Rattle.base.specs.Answer.{saidRange}
+use Rattle.base.specs.Single.{Single, SinglePart}
 use Rattle.base.proofs.Refusals.{numbered-injective}
-use Rattle.base.proofs.Answers.{saidNumber16-injective, saidNumber32-injective, saidOutcome-injective}
+use Rattle.base.proofs.Answers.{saidNumber16-injective, saidNumber32-injective, saidOutcome-injective, saidRange-injective}
+use Rattle.base.proofs.Parts.{part-once}
 use Rattle.base.proofs.code.TpmSt.refused.Kinds as TpmSt-refused-kinds
 use Rattle.base.proofs.code.TpmSt.refused.Reads as TpmSt-refused-reads
 use Rattle.base.proofs.code.TpmCc.refused.Kinds as TpmCc-refused-kinds
@@ -24,6 +26,12 @@ use Rattle.base.proofs.field.write_u16.Kinds as write-u16-kinds
 use Rattle.base.proofs.field.write_u16.Reads as write-u16-reads
 use Rattle.base.proofs.field.write_u32.Kinds as write-u32-kinds
 use Rattle.base.proofs.field.write_u32.Reads as write-u32-reads
+use Rattle.base.proofs.part.behind.Kinds as behind-kinds
+use Rattle.base.proofs.part.behind.Reads as behind-reads
+use Rattle.base.proofs.part.part.Kinds as part-kinds
+use Rattle.base.proofs.part.part.Reads as part-reads
+use Rattle.base.proofs.part.part_mut.Kinds as part-mut-kinds
+use Rattle.base.proofs.part.part_mut.Reads as part-mut-reads
 
 TpmSt-refused : Single 0 TpmSt-refused-kinds.ps TpmSt-refused-kinds.r TpmSt-refused-reads.Post
 TpmSt-refused κs a x y v w p q = (numbered-injective x y (p ∙ sym q), refl)
@@ -54,3 +62,12 @@ write-u16 κs a x y v w p q = (saidOutcome-injective x y (p .0 ∙ sym (q .0)), 
 
 write-u32 : Single 1 write-u32-kinds.ps write-u32-kinds.r write-u32-reads.Post
 write-u32 κs a x y v w p q = (saidOutcome-injective x y (p .0 ∙ sym (q .0)), λ i. ((p .1 ∙ sym (q .1)) i, (tt, (tt, tt))))
+
+behind : Single 0 behind-kinds.ps behind-kinds.r behind-reads.Post
+behind κs a x y v w p q = (saidRange-injective x y (p ∙ sym q), refl)
+
+part : SinglePart 1 part-kinds.ps part-kinds.r (λ κs x. x) part-reads.Post
+part κs a x y v w p q = (part-once (saidRange (a .1 .0)) (a .0) x y p q, refl)
+
+part-mut : SinglePart 1 part-mut-kinds.ps part-mut-kinds.r (λ κs x. x) part-mut-reads.Post
+part-mut κs a x y v w p q = (part-once (saidRange (a .1 .0)) (a .0) x y p q, refl)

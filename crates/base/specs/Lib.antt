@@ -3,6 +3,7 @@ pub mod Bytes
 pub mod Error
 pub mod Field
 pub mod Members
+pub mod Parts
 pub mod Said
 pub mod Single
 pub mod Tpm2b

@@ -3,3 +3,4 @@ pub mod answer;
 pub mod code;
 pub mod error;
 pub mod field;
+pub mod part;

@@ -1,0 +1,44 @@
+-- Where the part of a range stands: the cases of its definition, and that it stands within the bytes. What a call gives back is
+-- then told in one way.
+-- Assumes nothing.
+use mathlib.Core.Path.{_≡_, refl, sym, _∙_, ap, subst}
+use mathlib.Core.Bool.{Bool, true, false, _&&_, cond, and-eq-true-iff}
+use mathlib.Core.List.{List}
+use Prim.Native.Nat.{ℕ, _+_, _≤_}
+use native.Mathlib.Omega.{arith}
+use borrow.Author.Tests.{leb-true}
+use lib.Dec.{leb}
+use lib.ListN.{length}
+use denote.Ref.{RefT, ptr, now}
+use Rattle.base.specs.declared.part.Span.{Span}
+use Rattle.base.specs.Answer.{Part}
+use Rattle.base.specs.Parts.{span, fits, placed, heldAt, IsAt, IsPart}
+use Rattle.base.specs.Said.{Said, gives, refuses}
+
+module _ {said : Said Part} {from to : ℕ} (len : ℕ) (e : gives (record { from = from; to = to }) ≡ said) where
+  pub placed-there : (leb from to && leb to len) ≡ true → span from to ≡ placed said len
+  placed-there there = ap (λ (t : Bool). cond t (span from to) (span 0 0)) (sym there) ∙ ap (λ (x : Said Part). placed x len) e
+
+  pub placed-nowhere : (leb from to && leb to len) ≡ false → span 0 0 ≡ placed said len
+  placed-nowhere outside = ap (λ (t : Bool). cond t (span from to) (span 0 0)) (sym outside) ∙ ap (λ (x : Said Part). placed x len) e
+
+-- it stands within the bytes
+within : (p : Part) (len : ℕ) (t : Bool) → fits p len ≡ t
+    → (cond t (span (p .from) (p .to)) (span 0 0) .from ≤ cond t (span (p .from) (p .to)) (span 0 0) .to)
+    × (cond t (span (p .from) (p .to)) (span 0 0) .to ≤ len)
+within p len true e =
+    let both = and-eq-true-iff (leb (p .from) (p .to)) (leb (p .to) len) .0 e in
+    (leb-true (p .from) (p .to) (both .0), leb-true (p .to) len (both .1))
+within p len false e = (omega arith, omega arith)
+
+pub placed-within : (said : Said Part) (len : ℕ) → (placed said len .from ≤ placed said len .to) × (placed said len .to ≤ len)
+placed-within (gives p) len = within p len (fits p len) refl
+placed-within (refuses why) len = (omega arith, omega arith)
+
+pub is-within : (said : Said Part) (len : ℕ) {p : Span} → p ≡ placed said len → (p .from ≤ p .to) × (p .to ≤ len)
+is-within said len e = subst (λ (x : Span). (x .from ≤ x .to) × (x .to ≤ len)) (sym e) (placed-within said len)
+
+
+-- two parts that a range tells stand at one place and hold the same
+pub part-once : (said : Said Part) (s x y : RefT (List ℕ)) → IsPart said s x → IsPart said s y → (ptr x ≡ ptr y) × (now x ≡ now y)
+part-once said s x y p q = (λ i. ((p .1 ∙ sym (q .1)) i, (p .2 ∙ sym (q .2)) i), p .0 ∙ sym (q .0))
