@@ -39,6 +39,16 @@ pub is-within : (said : Said Part) (len : ℕ) {p : Span} → p ≡ placed said 
 is-within said len e = subst (λ (x : Span). (x .from ≤ x .to) × (x .to ≤ len)) (sym e) (placed-within said len)
 
 
+-- a part of a range is one of whatever the range is told to be
+pub as-told : (s : RefT (List ℕ)) {p q : Said Part} {held : List ℕ} {block place : ℕ} → p ≡ q
+    → (held ≡ heldAt (placed p (length (now s))) (now s)) × (block ≡ ptr s .0) × (place ≡ ptr s .1 + placed p (length (now s)) .from)
+    → (held ≡ heldAt (placed q (length (now s))) (now s)) × (block ≡ ptr s .0) × (place ≡ ptr s .1 + placed q (length (now s)) .from)
+as-told s e part = (
+  part .0 ∙ ap (λ (x : Said Part). heldAt (placed x (length (now s))) (now s)) e,
+  part .1,
+  part .2 ∙ ap (λ (x : Said Part). ptr s .1 + placed x (length (now s)) .from) e,
+)
+
 -- two parts that a range tells stand at one place and hold the same
 pub part-once : (said : Said Part) (s x y : RefT (List ℕ)) → IsPart said s x → IsPart said s y → (ptr x ≡ ptr y) × (now x ≡ now y)
 part-once said s x y p q = (λ i. ((p .1 ∙ sym (q .1)) i, (p .2 ∙ sym (q .2)) i), p .0 ∙ sym (q .0))

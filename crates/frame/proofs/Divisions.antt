@@ -10,6 +10,7 @@ use lib.Dec.{eqb, leb}
 use lib.ListN.{length, take}
 use Rattle.base.specs.Field.{readField}
 use Rattle.base.specs.Members.{isIn}
+use Rattle.base.specs.Parts.{span}
 use Rattle.base.specs.Said.{Said, gives, refuses, then}
 use Rattle.base.proofs.Checks.{passes, fails, goes-on, stops, needs-gives, then-gives, gives-injective, refuses-injective, gives≢refuses}
 use Rattle.table.specs.Table.{rowFor}
@@ -18,7 +19,7 @@ use Rattle.table.specs.declared.row.Row.{Row}
 use Rattle.frame.specs.declared.areas.Areas.{Areas}
 use Rattle.frame.specs.declared.session.Session.{Session}
 use Rattle.frame.specs.declared.session.Entries.{Entries}
-use Rattle.frame.specs.Answer.{entriesByValue, span, commandByValue, responseByValue}
+use Rattle.frame.specs.Answer.{entriesByValue, commandByValue, responseByValue}
 use Rattle.frame.specs.Areas.{handleArea, sizedArea}
 use Rattle.frame.specs.Command.{Division, commandHandles, commandAreas, judgeCommand, castCommand}
 use Rattle.frame.specs.Header.{tagOf, codeOf, sessions, plain, readCc, frameWhole, readFrameTag}

@@ -20,7 +20,6 @@ use Rattle.rc.specs.Known.{isKnown, knownCodes}
 use Rattle.table.specs.Table.{rowFor}
 use Rattle.table.specs.Tags.{tags}
 use Rattle.table.specs.declared.row.Row.{Row}
-use Rattle.frame.specs.Answer.{partIn, tailIn}
 use Rattle.frame.specs.Header.{tagOf, sizeOf, codeOf, header, readTag, readSize, readCc, readRc, setTag, setCc, setRc, framePrefix, frameWhole, isOfTwo, readFrameTag}
 
 module _ (s : List ℕ) where
@@ -174,26 +173,3 @@ module _ (s : List ℕ) where
     unfolding setRc
     rc-not-set other = fails (given (readCode n)) _ (writeField 4 6 n s) other ∙ has-header _ h
 
--- ---- parts
-
-module _ (s : List ℕ) {said : Said Part} where
-  pub part-read : {from to : ℕ} → gives (record { from = from; to = to }) ≡ said → (leb from to && leb to (length s)) ≡ true
-      → take (to - from) (drop from s) ≡ partIn said s
-  part-read {from} {to} e fits =
-      ap (λ (t : Bool). cond t (take (to - from) (drop from s)) []) (sym fits) ∙ ap (λ (x : Said Part). partIn x s) e
-
-  pub tail-read : {from to : ℕ} → gives (record { from = from; to = to }) ≡ said → (leb from to && leb to (length s)) ≡ true
-      → drop to s ≡ tailIn said s
-  tail-read {from} {to} e fits = ap (λ (t : Bool). cond t (drop to s) []) (sym fits) ∙ ap (λ (x : Said Part). tailIn x s) e
-
-  pub no-part : {from to : ℕ} → gives (record { from = from; to = to }) ≡ said → (leb from to && leb to (length s)) ≡ false
-      → ([] ≡ partIn said s) × ([] ≡ tailIn said s)
-  no-part {from} {to} e outside = (
-    ap (λ (t : Bool). cond t (take (to - from) (drop from s)) []) (sym outside) ∙ ap (λ (x : Said Part). partIn x s) e,
-    ap (λ (t : Bool). cond t (drop to s) []) (sym outside) ∙ ap (λ (x : Said Part). tailIn x s) e,
-  )
-
-pub fits-within : (from to len : ℕ) → (leb from to && leb to len) ≡ true → (from ≤ to) × (to ≤ len)
-fits-within from to len e =
-    let both = and-eq-true-iff (leb from to) (leb to len) .0 e in
-    (leb-true from to (both .0), leb-true to len (both .1))

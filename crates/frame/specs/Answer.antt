@@ -1,12 +1,12 @@
 -- The answers of the frame's calls, in the paper's terms; and what the calls give back of a division, by value.
 -- Assumes nothing: these are definitions.
-use Prim.Native.Nat.{ℕ, _-_}
-use mathlib.Core.Bool.{Bool, true, false, _&&_, cond}
-use mathlib.Core.List.{List, []}
-use lib.Dec.{leb}
-use lib.ListN.{length, take, drop}
+use Prim.Native.Nat.{ℕ}
+use mathlib.Core.Bool.{Bool, true, false}
+use mathlib.Core.List.{List}
+use lib.ListN.{length}
 use Rattle.base.specs.Answer.{Part}
 use Rattle.base.specs.Error.{numbered}
+use Rattle.base.specs.Parts.{span}
 use Rattle.base.specs.Said.{Said, gives, refuses, then}
 use Rattle.frame.specs.declared.areas.Areas.{Areas}
 use Rattle.frame.specs.declared.areas.Divided.{Divided}
@@ -17,7 +17,6 @@ use Rattle.frame.specs.declared.walk.Entered.{Entered}
 use Rattle.frame.specs.declared.walk.Entered.the-variants as entered
 use Rattle.frame.specs.declared.walk.Walked.{Walked}
 use Rattle.frame.specs.declared.walk.Walked.the-variants as walked
-use Rattle.frame.specs.declared.part.Span.{Span}
 use Rattle.frame.specs.declared.command.Command.{Command}
 use Rattle.frame.specs.declared.command.CommandRead.{CommandRead}
 use Rattle.frame.specs.declared.command.CommandRead.the-variants as command
@@ -58,9 +57,6 @@ handleWidth true = 4
 handleWidth false = 0
 
 -- a command and a response by value: the sized bytes are the entries of the one and the parameters of the other
-abbrev pub span : ℕ → ℕ → Span
-span from to = record { from = from; to = to }
-
 abbrev pub commandByValue : List ℕ → Said Division → Said Command
 commandByValue s division = then division λ d. gives (record {
   tag = record { 0 = tagOf s };
@@ -81,20 +77,7 @@ responseByValue s division = then division λ d. gives (record {
   entries = byValue (d .entries);
 })
 
--- ---- parts of lent bytes
-
--- what stands between two places of the bytes; nothing where there is no such part, or where its range is refused
-abbrev pub fits : Part → List ℕ → Bool
-fits p s = leb (p .from) (p .to) && leb (p .to) (length s)
-
-abbrev pub partIn : Said Part → List ℕ → List ℕ
-partIn (gives p) s = cond (fits p s) (take (p .to - p .from) (drop (p .from) s)) []
-partIn (refuses why) s = []
-
--- what stands behind it
-abbrev pub tailIn : Said Part → List ℕ → List ℕ
-tailIn (gives p) s = cond (fits p s) (drop (p .to) s) []
-tailIn (refuses why) s = []
+-- ---- ranges of lent bytes
 
 -- all bytes, or as many as a read took, as a part from their start
 abbrev pub whole : {A : Type 0} → List ℕ → Said A → Said Part

@@ -1,9 +1,12 @@
 // Commands. A range read says what is refused and why; the part read of the same name is then empty.
 ghost use mathlib.Core.Path.{_≡_};
+ghost use borrow.Author.Needs.{needs};
+ghost use lib.ListN.{length};
 ghost use Rattle.base.specs.Answer.{saidCount, saidNumber32, saidOutcome, saidRange};
+ghost use Rattle.base.specs.Parts.{IsPart, Ties, behind};
 ghost use Rattle.base.specs.Said.{after, done};
 ghost use Rattle.table.specs.Dispatch.{commandCodes, dispatch};
-ghost use Rattle.frame.specs.Answer.{commandByValue, partIn, saidAreas, saidCommand, tailIn, upTo, whole};
+ghost use Rattle.frame.specs.Answer.{commandByValue, saidAreas, saidCommand, upTo, whole};
 ghost use Rattle.frame.specs.Command.{authRange, castCommand, castCommandPrefix, commandAreas, commandHandles, handlesRange, judgeCommand, parametersRange, readCommand};
 ghost use Rattle.frame.specs.Header.{readCc, setCc};
 use crate::areas::Divided;
@@ -13,11 +16,6 @@ use crate::header::frame_prefix;
 use crate::header::frame_tag;
 use crate::header::frame_whole;
 use crate::header::short;
-use crate::part::Span;
-use crate::part::part;
-use crate::part::part_mut;
-use crate::part::tail;
-use crate::part::tail_mut;
 use crate::session::Entries;
 use crate::walk::Walked;
 use crate::walk::walk;
@@ -32,6 +30,10 @@ use base::error::TpmError;
 use base::field::be16;
 use base::field::be32;
 use base::field::write_u32;
+use base::part::Span;
+use base::part::behind;
+use base::part::part;
+use base::part::part_mut;
 use table::dispatch::cc_known;
 use table::dispatch::find;
 use table::row::Found;
@@ -177,39 +179,39 @@ pub fn parameters_range(s: &[u8]) -> Range
 }
 
 pub fn handles(s: &[u8]) -> &[u8]
-    ensures { λ r. ⌜ now r ≡ partIn (handlesRange dispatch commandCodes (now (s .entry))) (now (s .entry)) ⌝ }
+    ensures { λ r. ⌜ IsPart (handlesRange dispatch commandCodes (now (s .entry))) (s .entry) r ⌝ }
 {
     part(s, handles_range(s))
 }
 
 pub fn auth_area(s: &[u8]) -> &[u8]
-    ensures { λ r. ⌜ now r ≡ partIn (authRange dispatch commandCodes (now (s .entry))) (now (s .entry)) ⌝ }
+    ensures { λ r. ⌜ IsPart (authRange dispatch commandCodes (now (s .entry))) (s .entry) r ⌝ }
 {
     part(s, auth_area_range(s))
 }
 
 pub fn parameters(s: &[u8]) -> &[u8]
-    ensures { λ r. ⌜ now r ≡ partIn (parametersRange dispatch commandCodes (now (s .entry))) (now (s .entry)) ⌝ }
+    ensures { λ r. ⌜ IsPart (parametersRange dispatch commandCodes (now (s .entry))) (s .entry) r ⌝ }
 {
     part(s, parameters_range(s))
 }
 
 pub fn handles_mut(s: &mut [u8]) -> &mut [u8]
-    ensures { λ r. ⌜ now r ≡ partIn (handlesRange dispatch commandCodes (now (s .entry))) (now (s .entry)) ⌝ }
+    ensures { λ r. Ties 𝓤 H A (search needs) (handlesRange dispatch commandCodes (now (s .entry))) (s .entry) r ∗ ⌜ IsPart (handlesRange dispatch commandCodes (now (s .entry))) (s .entry) r ⌝ }
 {
     let range = handles_range(s);
     part_mut(s, range)
 }
 
 pub fn auth_area_mut(s: &mut [u8]) -> &mut [u8]
-    ensures { λ r. ⌜ now r ≡ partIn (authRange dispatch commandCodes (now (s .entry))) (now (s .entry)) ⌝ }
+    ensures { λ r. Ties 𝓤 H A (search needs) (authRange dispatch commandCodes (now (s .entry))) (s .entry) r ∗ ⌜ IsPart (authRange dispatch commandCodes (now (s .entry))) (s .entry) r ⌝ }
 {
     let range = auth_area_range(s);
     part_mut(s, range)
 }
 
 pub fn parameters_mut(s: &mut [u8]) -> &mut [u8]
-    ensures { λ r. ⌜ now r ≡ partIn (parametersRange dispatch commandCodes (now (s .entry))) (now (s .entry)) ⌝ }
+    ensures { λ r. Ties 𝓤 H A (search needs) (parametersRange dispatch commandCodes (now (s .entry))) (s .entry) r ∗ ⌜ IsPart (parametersRange dispatch commandCodes (now (s .entry))) (s .entry) r ⌝ }
 {
     let range = parameters_range(s);
     part_mut(s, range)
@@ -230,13 +232,13 @@ pub fn cast_range(s: &[u8]) -> Range
 }
 
 pub fn cast(s: &[u8]) -> &[u8]
-    ensures { λ r. ⌜ now r ≡ partIn (whole (now (s .entry)) (castCommand dispatch commandCodes (now (s .entry)))) (now (s .entry)) ⌝ }
+    ensures { λ r. ⌜ IsPart (whole (now (s .entry)) (castCommand dispatch commandCodes (now (s .entry)))) (s .entry) r ⌝ }
 {
     part(s, cast_range(s))
 }
 
 pub fn cast_mut(s: &mut [u8]) -> &mut [u8]
-    ensures { λ r. ⌜ now r ≡ partIn (whole (now (s .entry)) (castCommand dispatch commandCodes (now (s .entry)))) (now (s .entry)) ⌝ }
+    ensures { λ r. Ties 𝓤 H A (search needs) (whole (now (s .entry)) (castCommand dispatch commandCodes (now (s .entry)))) (s .entry) r ∗ ⌜ IsPart (whole (now (s .entry)) (castCommand dispatch commandCodes (now (s .entry)))) (s .entry) r ⌝ }
 {
     let range = cast_range(s);
     part_mut(s, range)
@@ -256,30 +258,36 @@ pub fn cast_prefix_range(s: &[u8]) -> Range
 }
 
 pub fn cast_prefix(s: &[u8]) -> &[u8]
-    ensures { λ r. ⌜ now r ≡ partIn (upTo (castCommandPrefix dispatch commandCodes (now (s .entry)))) (now (s .entry)) ⌝ }
+    ensures { λ r. ⌜ IsPart (upTo (castCommandPrefix dispatch commandCodes (now (s .entry)))) (s .entry) r ⌝ }
 {
     part(s, cast_prefix_range(s))
 }
 
 pub fn cast_prefix_mut(s: &mut [u8]) -> &mut [u8]
-    ensures { λ r. ⌜ now r ≡ partIn (upTo (castCommandPrefix dispatch commandCodes (now (s .entry)))) (now (s .entry)) ⌝ }
+    ensures { λ r. Ties 𝓤 H A (search needs) (upTo (castCommandPrefix dispatch commandCodes (now (s .entry)))) (s .entry) r ∗ ⌜ IsPart (upTo (castCommandPrefix dispatch commandCodes (now (s .entry)))) (s .entry) r ⌝ }
 {
     let range = cast_prefix_range(s);
     part_mut(s, range)
 }
 
 // What stands behind the command at the start of s.
-pub fn cast_prefix_tail(s: &[u8]) -> &[u8]
-    ensures { λ r. ⌜ now r ≡ tailIn (upTo (castCommandPrefix dispatch commandCodes (now (s .entry)))) (now (s .entry)) ⌝ }
+fn prefix_tail_range(s: &[u8]) -> Range
+    ensures { λ r. ⌜ saidRange r ≡ behind (upTo (castCommandPrefix dispatch commandCodes (now (s .entry)))) (length (now (s .entry))) ⌝ }
 {
-    tail(s, cast_prefix_range(s))
+    behind(cast_prefix_range(s), s.len())
+}
+
+pub fn cast_prefix_tail(s: &[u8]) -> &[u8]
+    ensures { λ r. ⌜ IsPart (behind (upTo (castCommandPrefix dispatch commandCodes (now (s .entry)))) (length (now (s .entry)))) (s .entry) r ⌝ }
+{
+    part(s, prefix_tail_range(s))
 }
 
 pub fn cast_prefix_tail_mut(s: &mut [u8]) -> &mut [u8]
-    ensures { λ r. ⌜ now r ≡ tailIn (upTo (castCommandPrefix dispatch commandCodes (now (s .entry)))) (now (s .entry)) ⌝ }
+    ensures { λ r. Ties 𝓤 H A (search needs) (behind (upTo (castCommandPrefix dispatch commandCodes (now (s .entry)))) (length (now (s .entry)))) (s .entry) r ∗ ⌜ IsPart (behind (upTo (castCommandPrefix dispatch commandCodes (now (s .entry)))) (length (now (s .entry)))) (s .entry) r ⌝ }
 {
-    let range = cast_prefix_range(s);
-    tail_mut(s, range)
+    let range = prefix_tail_range(s);
+    part_mut(s, range)
 }
 
 // ---- the full check

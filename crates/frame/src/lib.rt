@@ -2,7 +2,6 @@
 pub mod areas;
 pub mod command;
 pub mod header;
-pub mod part;
 pub mod response;
 pub mod session;
 pub mod walk;

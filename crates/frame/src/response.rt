@@ -1,11 +1,13 @@
 // Responses. Whether a response passes depends on the command that it answers: its code is asked for.
 ghost use mathlib.Core.Path.{_≡_};
 ghost use Prim.Native.Nat.{_≤_};
+ghost use borrow.Author.Needs.{needs};
 ghost use lib.ListN.{length};
 ghost use Rattle.base.specs.Answer.{saidNumber32, saidOutcome, saidRange};
+ghost use Rattle.base.specs.Parts.{IsPart, Ties, behind};
 ghost use Rattle.base.specs.Said.{after, done};
 ghost use Rattle.table.specs.Dispatch.{dispatch};
-ghost use Rattle.frame.specs.Answer.{partIn, responseByValue, saidAreas, saidResponse, tailIn, upTo, whole};
+ghost use Rattle.frame.specs.Answer.{responseByValue, saidAreas, saidResponse, upTo, whole};
 ghost use Rattle.frame.specs.Header.{readRc, setRc};
 ghost use Rattle.frame.specs.Response.{bodyRange, castResponse, castResponsePrefix, errorAreas, judgeResponse, readResponse, responseAreas, successAreas};
 use crate::areas::Areas;
@@ -16,11 +18,6 @@ use crate::header::frame_prefix;
 use crate::header::frame_tag;
 use crate::header::frame_whole;
 use crate::header::short;
-use crate::part::Span;
-use crate::part::part;
-use crate::part::part_mut;
-use crate::part::tail;
-use crate::part::tail_mut;
 use crate::session::Entries;
 use crate::walk::Walked;
 use crate::walk::walk;
@@ -36,6 +33,10 @@ use base::error::TpmError;
 use base::field::be16;
 use base::field::be32;
 use base::field::write_u32;
+use base::part::Span;
+use base::part::behind;
+use base::part::part;
+use base::part::part_mut;
 use rc::code::Answer;
 use rc::code::read;
 use table::dispatch::find;
@@ -104,13 +105,13 @@ pub fn body_range(s: &[u8]) -> Range
 }
 
 pub fn body(s: &[u8]) -> &[u8]
-    ensures { λ r. ⌜ now r ≡ partIn (bodyRange (now (s .entry))) (now (s .entry)) ⌝ }
+    ensures { λ r. ⌜ IsPart (bodyRange (now (s .entry))) (s .entry) r ⌝ }
 {
     part(s, body_range(s))
 }
 
 pub fn body_mut(s: &mut [u8]) -> &mut [u8]
-    ensures { λ r. ⌜ now r ≡ partIn (bodyRange (now (s .entry))) (now (s .entry)) ⌝ }
+    ensures { λ r. Ties 𝓤 H A (search needs) (bodyRange (now (s .entry))) (s .entry) r ∗ ⌜ IsPart (bodyRange (now (s .entry))) (s .entry) r ⌝ }
 {
     let range = body_range(s);
     part_mut(s, range)
@@ -150,13 +151,13 @@ pub fn cast_range(s: &[u8]) -> Range
 }
 
 pub fn cast(s: &[u8]) -> &[u8]
-    ensures { λ r. ⌜ now r ≡ partIn (whole (now (s .entry)) (castResponse (now (s .entry)))) (now (s .entry)) ⌝ }
+    ensures { λ r. ⌜ IsPart (whole (now (s .entry)) (castResponse (now (s .entry)))) (s .entry) r ⌝ }
 {
     part(s, cast_range(s))
 }
 
 pub fn cast_mut(s: &mut [u8]) -> &mut [u8]
-    ensures { λ r. ⌜ now r ≡ partIn (whole (now (s .entry)) (castResponse (now (s .entry)))) (now (s .entry)) ⌝ }
+    ensures { λ r. Ties 𝓤 H A (search needs) (whole (now (s .entry)) (castResponse (now (s .entry)))) (s .entry) r ∗ ⌜ IsPart (whole (now (s .entry)) (castResponse (now (s .entry)))) (s .entry) r ⌝ }
 {
     let range = cast_range(s);
     part_mut(s, range)
@@ -176,30 +177,36 @@ pub fn cast_prefix_range(s: &[u8]) -> Range
 }
 
 pub fn cast_prefix(s: &[u8]) -> &[u8]
-    ensures { λ r. ⌜ now r ≡ partIn (upTo (castResponsePrefix (now (s .entry)))) (now (s .entry)) ⌝ }
+    ensures { λ r. ⌜ IsPart (upTo (castResponsePrefix (now (s .entry)))) (s .entry) r ⌝ }
 {
     part(s, cast_prefix_range(s))
 }
 
 pub fn cast_prefix_mut(s: &mut [u8]) -> &mut [u8]
-    ensures { λ r. ⌜ now r ≡ partIn (upTo (castResponsePrefix (now (s .entry)))) (now (s .entry)) ⌝ }
+    ensures { λ r. Ties 𝓤 H A (search needs) (upTo (castResponsePrefix (now (s .entry)))) (s .entry) r ∗ ⌜ IsPart (upTo (castResponsePrefix (now (s .entry)))) (s .entry) r ⌝ }
 {
     let range = cast_prefix_range(s);
     part_mut(s, range)
 }
 
 // What stands behind the response at the start of s.
-pub fn cast_prefix_tail(s: &[u8]) -> &[u8]
-    ensures { λ r. ⌜ now r ≡ tailIn (upTo (castResponsePrefix (now (s .entry)))) (now (s .entry)) ⌝ }
+fn prefix_tail_range(s: &[u8]) -> Range
+    ensures { λ r. ⌜ saidRange r ≡ behind (upTo (castResponsePrefix (now (s .entry)))) (length (now (s .entry))) ⌝ }
 {
-    tail(s, cast_prefix_range(s))
+    behind(cast_prefix_range(s), s.len())
+}
+
+pub fn cast_prefix_tail(s: &[u8]) -> &[u8]
+    ensures { λ r. ⌜ IsPart (behind (upTo (castResponsePrefix (now (s .entry)))) (length (now (s .entry)))) (s .entry) r ⌝ }
+{
+    part(s, prefix_tail_range(s))
 }
 
 pub fn cast_prefix_tail_mut(s: &mut [u8]) -> &mut [u8]
-    ensures { λ r. ⌜ now r ≡ tailIn (upTo (castResponsePrefix (now (s .entry)))) (now (s .entry)) ⌝ }
+    ensures { λ r. Ties 𝓤 H A (search needs) (behind (upTo (castResponsePrefix (now (s .entry)))) (length (now (s .entry)))) (s .entry) r ∗ ⌜ IsPart (behind (upTo (castResponsePrefix (now (s .entry)))) (length (now (s .entry)))) (s .entry) r ⌝ }
 {
-    let range = cast_prefix_range(s);
-    tail_mut(s, range)
+    let range = prefix_tail_range(s);
+    part_mut(s, range)
 }
 
 // ---- the full check

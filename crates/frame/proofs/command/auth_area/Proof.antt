@@ -1,11 +1,7 @@
 -- `frame::command::auth_area` meets its contract: the part is that of the range read.
 -- Assumes nothing.
-use mathlib.Core.Path.{ap, _∙_}
-use denote.Ref.{now}
-use Rattle.base.specs.Answer.{Part}
-use Rattle.base.specs.Said.{Said}
-use Rattle.frame.specs.Answer.{partIn}
 use borrow.Author.Needs.{needs}
+use Rattle.base.proofs.Parts.{as-told}
 use Rattle.frame.proofs.command.auth_area.Statement.{statement}
 use Rattle.frame.proofs.command.auth_area.Tie as tie
 
@@ -16,7 +12,7 @@ part-requires : tie.Need-part-requires
 part-requires c κs = search needs
 
 returns : tie.Need-returns
-returns c = c .part .ensures ∙ ap (λ (range : Said Part). partIn range (now (c .before .before .before .args .s))) (c .before .auth-area-range .ensures)
+returns c = as-told (c .before .before .before .args .s) (c .before .auth-area-range .ensures) (c .part .ensures)
 
 pub auth-area-spec : {M : Type 1} → statement M
 auth-area-spec = tie.close (tie.spec auth-area-range-requires part-requires returns)

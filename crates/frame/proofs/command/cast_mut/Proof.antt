@@ -1,22 +1,36 @@
--- `frame::command::cast_mut` meets its contract: the part is that of the range read.
+-- `frame::command::cast_mut` meets its contract: it hands out the part of the range read (base, `Handing.antt`).
 -- Assumes nothing.
-use mathlib.Core.Path.{ap, _∙_}
-use denote.Ref.{now}
+use Prim.Native.Nat.{ℕ}
+use mathlib.Core.List.{List}
+use contract.Running.{givenOf, tables, tablesOf}
+use denote.Triple.Spec.{tripleOf}
+use denote.Triple.Table.{entered, cited}
 use Rattle.base.specs.Answer.{Part}
 use Rattle.base.specs.Said.{Said}
-use Rattle.frame.specs.Answer.{partIn}
-use borrow.Author.Needs.{needs}
-use Rattle.frame.proofs.command.cast_mut.Statement.{statement}
-use Rattle.frame.proofs.command.cast_mut.Tie as tie
+use Rattle.table.specs.Dispatch.{dispatch, commandCodes}
+use Rattle.frame.specs.Answer.{whole}
+use Rattle.frame.specs.Command.{castCommand}
+use Rattle.base.proofs.Handing.{PartMut, Ranges, hands-out}
+use Rattle.base.proofs.part.part_mut.Symbol as part-def
+use Rattle.base.proofs.part.part_mut.Symbol.{name as #part-mut}
+use Rattle.base.proofs.part.part_mut.Met as part-thm
+use Rattle.frame.proofs.command.cast_range.Symbol as range-def
+use Rattle.frame.proofs.command.cast_range.Symbol.{name as #range}
+use Rattle.frame.proofs.command.cast_range.Met as range-thm
+use Rattle.frame.proofs.command.cast_mut.Key.{name as #this}
+use Rattle.frame.proofs.command.cast_mut as f
+use Rattle.frame.proofs.command.cast_mut.Statement as stated
+use Rattle.frame.proofs.command.cast_mut.Code as code
 
-cast-range-requires : tie.Need-cast-range-requires
-cast-range-requires c κs = search needs
+-- the range, of all the bytes
+abbrev range : List ℕ → Said Part
+range s = whole s (castCommand dispatch commandCodes s)
 
-part-mut-requires : tie.Need-part-mut-requires
-part-mut-requires c κs = search needs
-
-returns : tie.Need-returns
-returns c = c .part-mut .ensures ∙ ap (λ (range : Said Part). partIn range (now (c .before .before .before .before .args .s))) (c .before .cast-range .ensures)
-
-pub cast-mut-spec : {M : Type 1} → statement M
-cast-mut-spec = tie.close (tie.spec cast-range-requires part-mut-requires returns)
+pub cast-mut-spec : {M : Type 1} → stated.statement M
+unfolding code.routine tablesOf
+cast-mut-spec 𝓤 H 𝓜 𝓖 𝓡 =
+    entered 𝓤 H (tripleOf 𝓤 H (𝓖 .A) f.signature (f.spec 𝓤 H (𝓖 .A) (𝓜 .mem) (𝓡 .run)))
+    (tables 𝓤 H 𝓜 𝓡 code.env .C) (tables 𝓤 H 𝓜 𝓡 code.env .Λ) #this code.function (code.unfolded 𝓤 H 𝓜 𝓡)
+    (hands-out #range range 𝓤 H (𝓖 .A) (givenOf 𝓤 H 𝓜 𝓖) (𝓜 .mem) (𝓡 .run) (tablesOf 𝓤 H 𝓜 (tables 𝓤 H 𝓜 𝓡 code.env))
+    (cited 𝓤 H (Ranges #range range 𝓤 H (𝓖 .A)) 𝓜 𝓡 code.env #range range-def.routine code.calls-frame·command·cast-range (range-thm.met 𝓤 H 𝓜 𝓖 𝓡))
+    (cited 𝓤 H (PartMut 𝓤 H (𝓖 .A) (𝓜 .mem) (𝓡 .run)) 𝓜 𝓡 code.env #part-mut part-def.routine code.calls-base·part·part-mut (part-thm.met 𝓤 H 𝓜 𝓖 𝓡)))

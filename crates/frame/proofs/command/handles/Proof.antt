@@ -1,11 +1,7 @@
 -- `frame::command::handles` meets its contract: the part is that of the range read.
 -- Assumes nothing.
-use mathlib.Core.Path.{ap, _∙_}
-use denote.Ref.{now}
-use Rattle.base.specs.Answer.{Part}
-use Rattle.base.specs.Said.{Said}
-use Rattle.frame.specs.Answer.{partIn}
 use borrow.Author.Needs.{needs}
+use Rattle.base.proofs.Parts.{as-told}
 use Rattle.frame.proofs.command.handles.Statement.{statement}
 use Rattle.frame.proofs.command.handles.Tie as tie
 
@@ -16,7 +12,7 @@ part-requires : tie.Need-part-requires
 part-requires c κs = search needs
 
 returns : tie.Need-returns
-returns c = c .part .ensures ∙ ap (λ (range : Said Part). partIn range (now (c .before .before .before .args .s))) (c .before .handles-range .ensures)
+returns c = as-told (c .before .before .before .args .s) (c .before .handles-range .ensures) (c .part .ensures)
 
 pub handles-spec : {M : Type 1} → statement M
 handles-spec = tie.close (tie.spec handles-range-requires part-requires returns)
