@@ -2,6 +2,7 @@ pub mod Answers
 pub mod Bytes
 pub mod Checks
 pub mod Handing
+pub mod HandingBy
 pub mod Lending
 pub mod Lists
 pub mod Parts

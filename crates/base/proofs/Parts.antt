@@ -6,14 +6,15 @@ use mathlib.Core.Bool.{Bool, true, false, _&&_, cond, and-eq-true-iff}
 use mathlib.Core.List.{List}
 use Prim.Native.Nat.{ℕ, _+_, _≤_}
 use native.Mathlib.Omega.{arith}
-use borrow.Author.Tests.{leb-true}
+use borrow.Author.Tests.{le-leb, leb-true}
 use lib.Dec.{leb}
-use lib.ListN.{length}
+use lib.ListN.{length, drop}
 use denote.Ref.{RefT, ptr, now}
 use Rattle.base.specs.declared.part.Span.{Span}
 use Rattle.base.specs.Answer.{Part}
-use Rattle.base.specs.Parts.{span, fits, placed, heldAt, IsAt, IsPart}
+use Rattle.base.specs.Parts.{span, fits, placed, upTo, behind, heldAt, partIn, IsPart}
 use Rattle.base.specs.Said.{Said, gives, refuses}
+use Rattle.base.proofs.Lists.{take-rest}
 
 module _ {said : Said Part} {from to : ℕ} (len : ℕ) (e : gives (record { from = from; to = to }) ≡ said) where
   pub placed-there : (leb from to && leb to len) ≡ true → span from to ≡ placed said len
@@ -38,6 +39,9 @@ placed-within (refuses why) len = (omega arith, omega arith)
 pub is-within : (said : Said Part) (len : ℕ) {p : Span} → p ≡ placed said len → (p .from ≤ p .to) × (p .to ≤ len)
 is-within said len e = subst (λ (x : Span). (x .from ≤ x .to) × (x .to ≤ len)) (sym e) (placed-within said len)
 
+-- what is behind the part of a read from the start
+pub part-behind : (s : List ℕ) (n : ℕ) → n ≤ length s → partIn (behind (upTo (gives n)) (length s)) s ≡ drop n s
+part-behind s n h = simp (le-leb n (length s) h, le-leb (length s) (length s) (omega arith)) (take-rest n s)
 
 -- a part of a range is one of whatever the range is told to be
 pub as-told : (s : RefT (List ℕ)) {p q : Said Part} {held : List ℕ} {block place : ℕ} → p ≡ q

@@ -34,13 +34,20 @@ abbrev pub placed : Said Part → ℕ → Span
 placed (gives p) len = cond (fits p len) (span (p .from) (p .to)) (span 0 0)
 placed (refuses why) len = span 0 0
 
+-- as many bytes as a read took, from their start
+abbrev pub upTo : Said ℕ → Said Part
+upTo read = then read λ n. gives (record { from = 0; to = n })
+
 -- what stands behind the part of a range in so many bytes
 abbrev pub behind : Said Part → ℕ → Said Part
 behind range len = then range λ p. gives (record { from = p .to; to = len })
 
--- what some bytes have between two places, and the same bytes with others put there
+-- what some bytes have between two places, and in the part of a range; and the same bytes with others put there
 abbrev pub heldAt : Span → List ℕ → List ℕ
 heldAt p s = take (p .to - p .from) (drop (p .from) s)
+
+abbrev pub partIn : Said Part → List ℕ → List ℕ
+partIn range s = heldAt (placed range (length s)) s
 
 abbrev pub putAt : Span → List ℕ → List ℕ → List ℕ
 putAt p t s = take (p .from) s ++ (t ++ drop (p .to) s)

@@ -12,13 +12,15 @@ use lib.Dec.{leb}
 use lib.ListN.{length, take, drop, replicate, length-append, length-drop, drop-of-length-le}
 use lib.Seq.{length-take-le, take-at}
 use Rattle.base.specs.Bytes.{AreBytes, bytes}
+use Rattle.base.specs.Parts.{upTo, behind, partIn}
 use Rattle.base.specs.Said.{Said, gives, then}
 use Rattle.base.specs.Tpm2b.{tpm2b}
 use Rattle.base.proofs.Bytes.{number-lt, are-bytes-take}
 use Rattle.base.proofs.Checks.{needs-gives, then-gives, gives-injective}
+use Rattle.base.proofs.Parts.{part-behind}
 use Rattle.base.proofs.Tpm2b.{length-tpm2b, tpm2b-size, tpm2b-data, tpm2b-rest, tpm2b-again}
 use Rattle.buffer.specs.Fixed.{Buffer, held, wire, put, new, over, grown, extended, marshalled, unmarshalled, equal, sameBytes}
-use Rattle.buffer.specs.View.{sizeOf, readSize, prefix, whole, tailPart}
+use Rattle.buffer.specs.View.{sizeOf, readSize, prefix, whole}
 use Rattle.buffer.proofs.Rooms.{emitted-gives, length-held, bytes-same, equal-read, grown-size, read-done}
 use Rattle.buffer.proofs.Views.{size-is, prefix-read, prefix-fits, prefix-is, whole-read, whole-fits}
 
@@ -94,7 +96,7 @@ module _ (capacity : ℕ) (b : Buffer) (lent : List ℕ) (w : OfCapacity capacit
   pub marshal-unmarshal :
       (later : List ℕ) × (marshalled capacity b lent ≡ gives later)
       × (c : Buffer) × (unmarshalled capacity later ≡ gives c) × (equal capacity c b ≡ gives true)
-      × (tailPart (prefix capacity later) later ≡ drop (2 + b .size) lent)
+      × (partIn (behind (upTo (prefix capacity later)) (length later)) later ≡ drop (2 + b .size) lent)
   marshal-unmarshal =
       let size = size-held in
       let all : length (wire b) ≡ 2 + b .size = length-tpm2b (held b) ∙ ap (λ (m : ℕ). 2 + m) size in
@@ -111,7 +113,8 @@ module _ (capacity : ℕ) (b : Buffer) (lent : List ℕ) (w : OfCapacity capacit
         c,
         sym (read-done capacity later read),
         sym (equal-read capacity (c .size) (c .room) (b .size) (b .room) (omega arith) (omega arith)) ∙ ap gives (ap (λ (l : List ℕ). sameBytes l (held b)) same ∙ bytes-same (held b)),
-        ap (λ (s : Said ℕ). tailPart s later) (sym read) ∙ tpm2b-rest (held b) rest (omega arith) ∙ ap (λ (m : ℕ). drop m lent) all,
+        ap (λ (s : Said ℕ). partIn (behind (upTo s) (length later)) later) (sym read)
+            ∙ part-behind later (2 + length (held b)) (prefix-fits capacity later read .1) ∙ tpm2b-rest (held b) rest (omega arith) ∙ ap (λ (m : ℕ). drop m lent) all,
       )
 
 -- unmarshal, then marshal: the bytes that were read

@@ -1,21 +1,29 @@
 -- Each public function of buffer leaves a single answer and a single later state of what was lent (base, specs/Single.antt).
 -- Assumes nothing.
 use mathlib.Core.Path.{_≡_, refl, sym, _∙_}
+use lib.ListN.{length}
 use denote.Ref.{now}
 use Rattle.base.specs.Answer.{saidOutcome}
+use Rattle.base.specs.Parts.{upTo, behind}
 use Rattle.base.specs.Single.{Single, SinglePart}
 use Rattle.base.proofs.Answers.{saidCount-injective, saidFlag-injective, saidOutcome-injective, saidRange-injective}
+use Rattle.base.proofs.Parts.{part-once}
 use Rattle.buffer.specs.declared.fixed64.TpmBuffer64.{TpmBuffer64}
 use Rattle.buffer.specs.declared.fixed64.Extended64.{Extended64}
 use Rattle.buffer.specs.declared.fixed1024.TpmBuffer1024.{TpmBuffer1024}
 use Rattle.buffer.specs.declared.fixed1024.Extended1024.{Extended1024}
 use Rattle.buffer.specs.Capacities.{of64, of1024}
+use Rattle.buffer.specs.View.{prefix, whole, dataRange}
 use Rattle.buffer.proofs.view.size.Kinds as size-kinds
 use Rattle.buffer.proofs.view.size.Reads as size-reads
 use Rattle.buffer.proofs.view.validate_prefix.Kinds as validate-prefix-kinds
 use Rattle.buffer.proofs.view.validate_prefix.Reads as validate-prefix-reads
 use Rattle.buffer.proofs.view.validate.Kinds as validate-kinds
 use Rattle.buffer.proofs.view.validate.Reads as validate-reads
+use Rattle.buffer.proofs.view.cast_range.Kinds as cast-range-kinds
+use Rattle.buffer.proofs.view.cast_range.Reads as cast-range-reads
+use Rattle.buffer.proofs.view.cast_prefix_range.Kinds as cast-prefix-range-kinds
+use Rattle.buffer.proofs.view.cast_prefix_range.Reads as cast-prefix-range-reads
 use Rattle.buffer.proofs.view.data_range.Kinds as data-range-kinds
 use Rattle.buffer.proofs.view.data_range.Reads as data-range-reads
 use Rattle.buffer.proofs.view.is_empty.Kinds as is-empty-kinds
@@ -98,6 +106,12 @@ validate-prefix κs a x y v w p q = (saidCount-injective x y (p ∙ sym q), refl
 validate : Single 1 validate-kinds.ps validate-kinds.r validate-reads.Post
 validate κs a x y v w p q = (saidOutcome-injective x y (p ∙ sym q), refl)
 
+cast-range : Single 1 cast-range-kinds.ps cast-range-kinds.r cast-range-reads.Post
+cast-range κs a x y v w p q = (saidRange-injective x y (p ∙ sym q), refl)
+
+cast-prefix-range : Single 1 cast-prefix-range-kinds.ps cast-prefix-range-kinds.r cast-prefix-range-reads.Post
+cast-prefix-range κs a x y v w p q = (saidRange-injective x y (p ∙ sym q), refl)
+
 data-range : Single 1 data-range-kinds.ps data-range-kinds.r data-range-reads.Post
 data-range κs a x y v w p q = (saidRange-injective x y (p ∙ sym q), refl)
 
@@ -107,29 +121,29 @@ is-empty κs a x y v w p q = (saidFlag-injective x y (p ∙ sym q), refl)
 len : Single 1 len-kinds.ps len-kinds.r len-reads.Post
 len κs a x y v w p q = (p ∙ sym q, refl)
 
-cast : SinglePart 1 cast-kinds.ps cast-kinds.r (λ κs x. now x) cast-reads.Post
-cast κs a x y v w p q = (p ∙ sym q, refl)
+cast : SinglePart 1 cast-kinds.ps cast-kinds.r (λ κs x. x) cast-reads.Post
+cast κs a x y v w p q = (part-once (upTo (whole (a .0) (now (a .1 .0)))) (a .1 .0) x y p q, refl)
 
-cast-prefix : SinglePart 1 cast-prefix-kinds.ps cast-prefix-kinds.r (λ κs x. now x) cast-prefix-reads.Post
-cast-prefix κs a x y v w p q = (p ∙ sym q, refl)
+cast-prefix : SinglePart 1 cast-prefix-kinds.ps cast-prefix-kinds.r (λ κs x. x) cast-prefix-reads.Post
+cast-prefix κs a x y v w p q = (part-once (upTo (prefix (a .0) (now (a .1 .0)))) (a .1 .0) x y p q, refl)
 
-cast-prefix-tail : SinglePart 1 cast-prefix-tail-kinds.ps cast-prefix-tail-kinds.r (λ κs x. now x) cast-prefix-tail-reads.Post
-cast-prefix-tail κs a x y v w p q = (p ∙ sym q, refl)
+cast-prefix-tail : SinglePart 1 cast-prefix-tail-kinds.ps cast-prefix-tail-kinds.r (λ κs x. x) cast-prefix-tail-reads.Post
+cast-prefix-tail κs a x y v w p q = (part-once (behind (upTo (prefix (a .0) (now (a .1 .0)))) (length (now (a .1 .0)))) (a .1 .0) x y p q, refl)
 
-cast-mut : SinglePart 1 cast-mut-kinds.ps cast-mut-kinds.r (λ κs x. now x) cast-mut-reads.Post
-cast-mut κs a x y v w p q = (p ∙ sym q, refl)
+cast-mut : SinglePart 1 cast-mut-kinds.ps cast-mut-kinds.r (λ κs x. x) cast-mut-reads.Post
+cast-mut κs a x y v w p q = (part-once (upTo (whole (a .0) (now (a .1 .0)))) (a .1 .0) x y p q, refl)
 
-cast-prefix-mut : SinglePart 1 cast-prefix-mut-kinds.ps cast-prefix-mut-kinds.r (λ κs x. now x) cast-prefix-mut-reads.Post
-cast-prefix-mut κs a x y v w p q = (p ∙ sym q, refl)
+cast-prefix-mut : SinglePart 1 cast-prefix-mut-kinds.ps cast-prefix-mut-kinds.r (λ κs x. x) cast-prefix-mut-reads.Post
+cast-prefix-mut κs a x y v w p q = (part-once (upTo (prefix (a .0) (now (a .1 .0)))) (a .1 .0) x y p q, refl)
 
-cast-prefix-tail-mut : SinglePart 1 cast-prefix-tail-mut-kinds.ps cast-prefix-tail-mut-kinds.r (λ κs x. now x) cast-prefix-tail-mut-reads.Post
-cast-prefix-tail-mut κs a x y v w p q = (p ∙ sym q, refl)
+cast-prefix-tail-mut : SinglePart 1 cast-prefix-tail-mut-kinds.ps cast-prefix-tail-mut-kinds.r (λ κs x. x) cast-prefix-tail-mut-reads.Post
+cast-prefix-tail-mut κs a x y v w p q = (part-once (behind (upTo (prefix (a .0) (now (a .1 .0)))) (length (now (a .1 .0)))) (a .1 .0) x y p q, refl)
 
-data-part : SinglePart 1 data-kinds.ps data-kinds.r (λ κs x. now x) data-reads.Post
-data-part κs a x y v w p q = (p ∙ sym q, refl)
+data-part : SinglePart 1 data-kinds.ps data-kinds.r (λ κs x. x) data-reads.Post
+data-part κs a x y v w p q = (part-once (dataRange (now (a .0))) (a .0) x y p q, refl)
 
-data-mut : SinglePart 1 data-mut-kinds.ps data-mut-kinds.r (λ κs x. now x) data-mut-reads.Post
-data-mut κs a x y v w p q = (p ∙ sym q, refl)
+data-mut : SinglePart 1 data-mut-kinds.ps data-mut-kinds.r (λ κs x. x) data-mut-reads.Post
+data-mut κs a x y v w p q = (part-once (dataRange (now (a .0))) (a .0) x y p q, refl)
 
 -- ---- the buffer of 64
 

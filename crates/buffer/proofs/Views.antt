@@ -6,13 +6,13 @@ use Prim.Native.Nat.{ℕ, _+_, _-_, _≤_, _<_}
 use native.Mathlib.Omega.{arith}
 use borrow.Author.Tests.{le-leb, lt-leb, leb-true}
 use lib.Dec.{eqb, leb}
-use lib.ListN.{length, getD, length-drop}
-use lib.Seq.{take-all, length-take-le}
+use lib.ListN.{length, getD}
 use Rattle.base.specs.Bytes.{number}
+use Rattle.base.specs.Parts.{upTo}
 use Rattle.base.specs.Said.{Said, gives, refuses, done}
-use Rattle.base.proofs.Checks.{needs-gives, then-gives, gives-injective, gives≢refuses}
+use Rattle.base.proofs.Checks.{needs-gives, then-gives, gives-injective, refuses-injective, gives≢refuses}
 use Rattle.base.proofs.Lists.{take-drop-span}
-use Rattle.buffer.specs.View.{sizeOf, readSize, prefix, whole, viewPart, tailPart, dataRange, isEmpty}
+use Rattle.buffer.specs.View.{sizeOf, readSize, prefix, whole, dataRange, isEmpty}
 
 module _ (s : List ℕ) where
   pub size-short : length s < 2 → refuses (1 ∷ 0 ∷ 2 ∷ length s ∷ []) ≡ readSize s
@@ -77,15 +77,6 @@ module _ (capacity : ℕ) (s : List ℕ) where
       let is = gives-injective (there .1) in
       omega arith
 
-  -- the part read is that long, and with the tail it is everything
-  pub view-length : {n : ℕ} → gives n ≡ prefix capacity s → length (viewPart (prefix capacity s) s) ≡ n
-  view-length {n} e = rw (← e) (length-take-le n s (prefix-fits e .1))
-
-  pub view-and-tail : {n : ℕ} → gives n ≡ prefix capacity s → length (viewPart (prefix capacity s) s) + length (tailPart (prefix capacity s) s) ≡ length s
-  view-and-tail {n} e =
-      let fits = prefix-fits e in
-      rw (← e) (rw (length-take-le n s (fits .1), length-drop) (omega arith))
-
   pub prefix-is : {n : ℕ} → gives n ≡ prefix capacity s → n ≡ 2 + sizeOf s
   unfolding prefix readSize
   prefix-is e =
@@ -118,17 +109,17 @@ module _ (capacity : ℕ) (s : List ℕ) where
       let is = gives-injective (all .1) in
       omega arith
 
-  -- the part of a whole read is everything, of a refused one nothing
-  pub whole-part : gives tt ≡ done (whole capacity s) → s ≡ viewPart (whole capacity s) s
-  whole-part e = by (whole capacity s) refl e
+  -- the range of a whole read is everything, of a refused one nothing
+  pub whole-range : gives tt ≡ done (whole capacity s) → gives (record { from = 0; to = length s }) ≡ upTo (whole capacity s)
+  whole-range e = by (whole capacity s) refl e
     where
-      by : (w : Said ℕ) → whole capacity s ≡ w → gives tt ≡ done w → s ≡ viewPart w s
-      by (gives n) q e = sym (take-all n s (let fits = whole-fits (sym q) in omega arith))
+      by : (w : Said ℕ) → whole capacity s ≡ w → gives tt ≡ done w → gives (record { from = 0; to = length s }) ≡ upTo w
+      by (gives n) q e = ap (λ (m : ℕ). upTo (gives m)) (sym (whole-fits (sym q)))
       by (refuses why) q e = absurd (gives≢refuses e)
 
-  pub no-part : {why : List ℕ} → refuses why ≡ done (whole capacity s) → [] ≡ viewPart (whole capacity s) s
-  no-part e = by (whole capacity s) e
+  pub no-range : {why : List ℕ} → refuses why ≡ done (whole capacity s) → refuses why ≡ upTo (whole capacity s)
+  no-range e = by (whole capacity s) e
     where
-      by : {why : List ℕ} (w : Said ℕ) → refuses why ≡ done w → [] ≡ viewPart w s
+      by : {why : List ℕ} (w : Said ℕ) → refuses why ≡ done w → refuses why ≡ upTo w
       by (gives n) e = absurd (gives≢refuses (sym e))
-      by (refuses why) e = refl
+      by (refuses why) e = ap refuses (refuses-injective e)

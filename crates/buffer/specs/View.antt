@@ -4,10 +4,10 @@ use Prim.Native.Nat.{ℕ, _+_, _-_}
 use mathlib.Core.Bool.{Bool}
 use mathlib.Core.List.{List, [], _∷_}
 use lib.Dec.{eqb, leb}
-use lib.ListN.{length, take, drop}
+use lib.ListN.{length, take}
 use Rattle.base.specs.Answer.{Part}
 use Rattle.base.specs.Bytes.{number}
-use Rattle.base.specs.Said.{Said, gives, refuses, needs, then}
+use Rattle.base.specs.Said.{Said, gives, needs, then}
 
 -- the size field
 abbrev pub sizeOf : List ℕ → ℕ
@@ -28,19 +28,7 @@ prefix capacity s =
 unfoldable pub whole : ℕ → List ℕ → Said ℕ
 whole capacity s = then (prefix capacity s) λ n. needs (leb (length s) n) (2 ∷ n ∷ (length s - n) ∷ []) (gives n)
 
--- parts of the caller's bytes: up to where a read ends, and from there on; nothing where it is refused
-abbrev pub viewPart : Said ℕ → List ℕ → List ℕ
-viewPart (gives n) s = take n s
-viewPart (refuses why) s = []
-
-abbrev pub tailPart : Said ℕ → List ℕ → List ℕ
-tailPart (gives n) s = drop n s
-tailPart (refuses why) s = []
-
 -- the data is all bytes behind the length field, whatever that says
-abbrev pub dataPart : List ℕ → List ℕ
-dataPart s = drop 2 s
-
 unfoldable pub dataRange : List ℕ → Said Part
 dataRange s = then (readSize s) λ size. gives (record { from = 2; to = length s })
 

@@ -1,16 +1,21 @@
-// The TPM2B view, over the caller's bytes. A capacity is the most bytes that a size may tell of. A part asked for where
-// the read is refused is empty, and validate, validate_prefix or data_range says why.
+// The TPM2B view, over the caller's bytes. A capacity is the most bytes that a size may tell of. A range read says what is refused and
+// why; the part read of the same name is then empty.
 ghost use mathlib.Core.Path.{_≡_};
+ghost use borrow.Author.Needs.{needs};
 ghost use lib.ListN.{length};
 ghost use Rattle.base.specs.Answer.{saidCount, saidFlag, saidOutcome, saidRange};
+ghost use Rattle.base.specs.Parts.{IsPart, Ties, behind, upTo};
 ghost use Rattle.base.specs.Said.{done};
-ghost use Rattle.buffer.specs.View.{dataPart, isEmpty, prefix, readSize, tailPart, viewPart, whole, dataRange};
+ghost use Rattle.buffer.specs.View.{dataRange, isEmpty, prefix, readSize, whole};
 use base::answer::Count;
 use base::answer::Flag;
 use base::answer::Outcome;
 use base::answer::Range;
 use base::error::TpmError;
 use base::field::be16;
+use base::part::behind;
+use base::part::part;
+use base::part::part_mut;
 
 // The size field, not judged.
 pub fn size(s: &[u8]) -> Count
@@ -71,68 +76,36 @@ pub fn validate(capacity: usize, s: &[u8]) -> Outcome
     }
 }
 
-// The view of s whole.
-pub fn cast(capacity: usize, s: &[u8]) -> &[u8]
-    ensures { λ r. ⌜ now r ≡ viewPart (whole capacity (now (s .entry))) (now (s .entry)) ⌝ }
+// The view of s whole, by its start and its end.
+pub fn cast_range(capacity: usize, s: &[u8]) -> Range
+    ensures { λ r. ⌜ saidRange r ≡ upTo (whole capacity (now (s .entry))) ⌝ }
 {
     let read = validate(capacity, s);
     match read {
-        Outcome::Done => &s[..],
-        Outcome::Refused(_) => &s[..0],
+        Outcome::Done => Range::Is {
+            from: 0,
+            to: s.len(),
+        },
+        Outcome::Refused(e) => Range::Refused(e),
     }
 }
 
 // The view of the TPM2B at the start of s.
-pub fn cast_prefix(capacity: usize, s: &[u8]) -> &[u8]
-    ensures { λ r. ⌜ now r ≡ viewPart (prefix capacity (now (s .entry))) (now (s .entry)) ⌝ }
+pub fn cast_prefix_range(capacity: usize, s: &[u8]) -> Range
+    ensures { λ r. ⌜ saidRange r ≡ upTo (prefix capacity (now (s .entry))) ⌝ }
 {
     let read = validate_prefix(capacity, s);
     match read {
-        Count::Is(n) => &s[..n],
-        Count::Refused(_) => &s[..0],
+        Count::Is(n) => Range::Is { from: 0, to: n },
+        Count::Refused(e) => Range::Refused(e),
     }
 }
 
 // What stands behind the TPM2B at the start of s.
-pub fn cast_prefix_tail(capacity: usize, s: &[u8]) -> &[u8]
-    ensures { λ r. ⌜ now r ≡ tailPart (prefix capacity (now (s .entry))) (now (s .entry)) ⌝ }
+fn prefix_tail_range(capacity: usize, s: &[u8]) -> Range
+    ensures { λ r. ⌜ saidRange r ≡ behind (upTo (prefix capacity (now (s .entry)))) (length (now (s .entry))) ⌝ }
 {
-    let read = validate_prefix(capacity, s);
-    match read {
-        Count::Is(n) => &s[n..],
-        Count::Refused(_) => &s[..0],
-    }
-}
-
-// The same three as parts that can be written to.
-pub fn cast_mut(capacity: usize, s: &mut [u8]) -> &mut [u8]
-    ensures { λ r. ⌜ now r ≡ viewPart (whole capacity (now (s .entry))) (now (s .entry)) ⌝ }
-{
-    let read = validate(capacity, s);
-    match read {
-        Outcome::Done => &mut s[..],
-        Outcome::Refused(_) => &mut s[..0],
-    }
-}
-
-pub fn cast_prefix_mut(capacity: usize, s: &mut [u8]) -> &mut [u8]
-    ensures { λ r. ⌜ now r ≡ viewPart (prefix capacity (now (s .entry))) (now (s .entry)) ⌝ }
-{
-    let read = validate_prefix(capacity, s);
-    match read {
-        Count::Is(n) => &mut s[..n],
-        Count::Refused(_) => &mut s[..0],
-    }
-}
-
-pub fn cast_prefix_tail_mut(capacity: usize, s: &mut [u8]) -> &mut [u8]
-    ensures { λ r. ⌜ now r ≡ tailPart (prefix capacity (now (s .entry))) (now (s .entry)) ⌝ }
-{
-    let read = validate_prefix(capacity, s);
-    match read {
-        Count::Is(n) => &mut s[n..],
-        Count::Refused(_) => &mut s[..0],
-    }
+    behind(cast_prefix_range(capacity, s), s.len())
 }
 
 // Where the data stands: all behind the length field, which is not judged.
@@ -149,20 +122,58 @@ pub fn data_range(s: &[u8]) -> Range
     }
 }
 
-pub fn data(s: &[u8]) -> &[u8]
-    ensures { λ r. ⌜ now r ≡ dataPart (now (s .entry)) ⌝ }
+// ---- the parts of these ranges
+
+pub fn cast(capacity: usize, s: &[u8]) -> &[u8]
+    ensures { λ r. ⌜ IsPart (upTo (whole capacity (now (s .entry)))) (s .entry) r ⌝ }
 {
-    if s.len() < 2 { &s[..0] } else { &s[2..] }
+    part(s, cast_range(capacity, s))
+}
+
+pub fn cast_prefix(capacity: usize, s: &[u8]) -> &[u8]
+    ensures { λ r. ⌜ IsPart (upTo (prefix capacity (now (s .entry)))) (s .entry) r ⌝ }
+{
+    part(s, cast_prefix_range(capacity, s))
+}
+
+pub fn cast_prefix_tail(capacity: usize, s: &[u8]) -> &[u8]
+    ensures { λ r. ⌜ IsPart (behind (upTo (prefix capacity (now (s .entry)))) (length (now (s .entry)))) (s .entry) r ⌝ }
+{
+    part(s, prefix_tail_range(capacity, s))
+}
+
+pub fn data(s: &[u8]) -> &[u8]
+    ensures { λ r. ⌜ IsPart (dataRange (now (s .entry))) (s .entry) r ⌝ }
+{
+    part(s, data_range(s))
+}
+
+pub fn cast_mut(capacity: usize, s: &mut [u8]) -> &mut [u8]
+    ensures { λ r. Ties 𝓤 H A (search needs) (upTo (whole capacity (now (s .entry)))) (s .entry) r ∗ ⌜ IsPart (upTo (whole capacity (now (s .entry)))) (s .entry) r ⌝ }
+{
+    let range = cast_range(capacity, s);
+    part_mut(s, range)
+}
+
+pub fn cast_prefix_mut(capacity: usize, s: &mut [u8]) -> &mut [u8]
+    ensures { λ r. Ties 𝓤 H A (search needs) (upTo (prefix capacity (now (s .entry)))) (s .entry) r ∗ ⌜ IsPart (upTo (prefix capacity (now (s .entry)))) (s .entry) r ⌝ }
+{
+    let range = cast_prefix_range(capacity, s);
+    part_mut(s, range)
+}
+
+pub fn cast_prefix_tail_mut(capacity: usize, s: &mut [u8]) -> &mut [u8]
+    ensures { λ r. Ties 𝓤 H A (search needs) (behind (upTo (prefix capacity (now (s .entry)))) (length (now (s .entry)))) (s .entry) r ∗ ⌜ IsPart (behind (upTo (prefix capacity (now (s .entry)))) (length (now (s .entry)))) (s .entry) r ⌝ }
+{
+    let range = prefix_tail_range(capacity, s);
+    part_mut(s, range)
 }
 
 pub fn data_mut(s: &mut [u8]) -> &mut [u8]
-    ensures { λ r. ⌜ now r ≡ dataPart (now (s .entry)) ⌝ }
+    ensures { λ r. Ties 𝓤 H A (search needs) (dataRange (now (s .entry))) (s .entry) r ∗ ⌜ IsPart (dataRange (now (s .entry))) (s .entry) r ⌝ }
 {
-    if s.len() < 2 {
-        &mut s[..0]
-    } else {
-        &mut s[2..]
-    }
+    let range = data_range(s);
+    part_mut(s, range)
 }
 
 // Whether the size field says 0.

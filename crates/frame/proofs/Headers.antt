@@ -172,4 +172,3 @@ module _ (s : List ℕ) where
     pub rc-not-set : given (readCode n) ≡ false → refuses (5 ∷ 0 ∷ n ∷ []) ≡ setRc n s
     unfolding setRc
     rc-not-set other = fails (given (readCode n)) _ (writeField 4 6 n s) other ∙ has-header _ h
-

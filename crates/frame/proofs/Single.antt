@@ -3,7 +3,7 @@
 use mathlib.Core.Path.{_≡_, refl, sym, _∙_, ap}
 use lib.ListN.{length}
 use denote.Ref.{now}
-use Rattle.base.specs.Parts.{behind}
+use Rattle.base.specs.Parts.{behind, upTo}
 use Rattle.base.specs.Single.{Single, SinglePart}
 use Rattle.base.proofs.Refusals.{named-numbered}
 use Rattle.base.proofs.Answers.{injective-by, unsaid, saidNumber16-injective, saidNumber32-injective, saidOutcome-injective, saidRange-injective}
@@ -13,7 +13,7 @@ use Rattle.frame.specs.declared.command.CommandRead.{CommandRead}
 use Rattle.frame.specs.declared.command.CommandRead.the-variants as command
 use Rattle.frame.specs.declared.response.ResponseRead.{ResponseRead}
 use Rattle.frame.specs.declared.response.ResponseRead.the-variants as response
-use Rattle.frame.specs.Answer.{saidCommand, saidResponse, whole, upTo}
+use Rattle.frame.specs.Answer.{saidCommand, saidResponse, whole}
 use Rattle.frame.specs.Command.{authRange, castCommand, castCommandPrefix, handlesRange, parametersRange}
 use Rattle.frame.specs.Response.{bodyRange, castResponse, castResponsePrefix}
 use Rattle.frame.proofs.header.tag.Kinds as frame-tag-kinds

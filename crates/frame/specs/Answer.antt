@@ -79,9 +79,6 @@ responseByValue s division = then division λ d. gives (record {
 
 -- ---- ranges of lent bytes
 
--- all bytes, or as many as a read took, as a part from their start
+-- all bytes, where a read passed
 abbrev pub whole : {A : Type 0} → List ℕ → Said A → Said Part
 whole s read = then read λ a. gives (record { from = 0; to = length s })
-
-abbrev pub upTo : Said ℕ → Said Part
-upTo read = then read λ n. gives (record { from = 0; to = n })

@@ -1,31 +1,18 @@
--- `buffer::view::cast` meets its contract: the part is everything where `validate` passed, and nothing where it refused.
+-- `buffer::view::cast` meets its contract: the part is that of the range read.
 -- Assumes nothing.
-use Rattle.base.specs.Answer.{saidOutcome}
-use Rattle.base.proofs.Answers.{learnt}
-use Rattle.buffer.proofs.Views.{whole-part, no-part}
 use borrow.Author.Needs.{needs}
+use Rattle.base.proofs.Parts.{as-told}
 use Rattle.buffer.proofs.view.cast.Statement.{statement}
 use Rattle.buffer.proofs.view.cast.Tie as tie
 
-validate-requires : tie.Need-validate-requires
-validate-requires c κs = search needs
+cast-range-requires : tie.Need-cast-range-requires
+cast-range-requires c κs = search needs
 
-enum-told : tie.Need-enum-told
-enum-told c = search needs
-
-enum-told-2 : tie.Need-enum-told-2
-enum-told-2 c = search needs
-
-slice-aggregate-result : tie.Need-slice-aggregate-result
-slice-aggregate-result c = search needs
+part-requires : tie.Need-part-requires
+part-requires c κs = search needs
 
 returns : tie.Need-returns
-returns c = whole-part _ _ (learnt saidOutcome (c .enum-told .given .1) (c .before .before .validate .ensures))
-
-returns-2 : tie.Need-returns-2
-returns-2 c = no-part _ _ (learnt saidOutcome (c .before .enum-told2 .given .1) (c .before .before .before .validate .ensures))
+returns c = as-told (c .before .before .before .args .s) (c .before .cast-range .ensures) (c .part .ensures)
 
 pub cast-spec : {M : Type 1} → statement M
-cast-spec =
-    tie.close
-    (tie.spec validate-requires enum-told enum-told-2 slice-aggregate-result returns returns-2)
+cast-spec = tie.close (tie.spec cast-range-requires part-requires returns)

@@ -1,47 +1,41 @@
--- `buffer::view::cast_prefix_mut` meets its contract: the part ends where `validate_prefix` said, within the bytes, and is empty where it refused.
+-- `buffer::view::cast_prefix_mut` meets its contract: it hands out the part of the range read (base, `HandingBy.antt`, at a number).
 -- Assumes nothing.
-use mathlib.Core.Path.{ap, sym}
 use Prim.Native.Nat.{ℕ}
-use lib.Seq.{length-take-le}
-use denote.Ref.{now}
-use Rattle.base.specs.Answer.{saidCount}
+use mathlib.Core.List.{List}
+use contract.Running.{givenOf, tables, tablesOf}
+use mathlib.Core.Path.{refl}
+use mir.Syntax.{tyInt, w64}
+use mir.Val.{vint}
+use denote.Builtin.{usize}
+use denote.Plain.{uint-tells}
+use denote.Triple.Spec.{tripleOf}
+use denote.Triple.Table.{entered, cited}
+use Rattle.base.specs.Answer.{Part}
 use Rattle.base.specs.Said.{Said}
-use Rattle.base.proofs.Answers.{learnt}
-use Rattle.buffer.specs.View.{viewPart}
-use Rattle.buffer.proofs.Views.{prefix-fits}
-use borrow.Author.Needs.{needs}
-use Rattle.buffer.proofs.view.cast_prefix_mut.Statement.{statement}
-use Rattle.buffer.proofs.view.cast_prefix_mut.Tie as tie
+use Rattle.base.specs.Parts.{upTo}
+use Rattle.buffer.specs.View.{prefix}
+use Rattle.base.proofs.Handing.{PartMut}
+use Rattle.base.proofs.HandingBy.{Ranges, hands-out-by}
+use Rattle.base.proofs.part.part_mut.Symbol as part-def
+use Rattle.base.proofs.part.part_mut.Symbol.{name as #part-mut}
+use Rattle.base.proofs.part.part_mut.Met as part-thm
+use Rattle.buffer.proofs.view.cast_prefix_range.Symbol as range-def
+use Rattle.buffer.proofs.view.cast_prefix_range.Symbol.{name as #range}
+use Rattle.buffer.proofs.view.cast_prefix_range.Met as range-thm
+use Rattle.buffer.proofs.view.cast_prefix_mut.Key.{name as #this}
+use Rattle.buffer.proofs.view.cast_prefix_mut as f
+use Rattle.buffer.proofs.view.cast_prefix_mut.Statement as stated
+use Rattle.buffer.proofs.view.cast_prefix_mut.Code as code
 
-validate-prefix-requires : tie.Need-validate-prefix-requires
-validate-prefix-requires c κs = search needs
+-- the range, of all the bytes
+abbrev range : ℕ → List ℕ → Said Part
+range capacity s = upTo (prefix capacity s)
 
-enum-known-read : tie.Need-enum-known-read
-enum-known-read c = search needs
-
-slice-aggregate-result : tie.Need-slice-aggregate-result
-slice-aggregate-result c = sym (length-take-le _ _ (prefix-fits _ _ (learnt saidCount (c .before .before .read .given .1) (c .before .before .before .before .validate-prefix .ensures)) .1))
-
-enum-told : tie.Need-enum-told
-enum-told c = search needs
-
-slice-aggregate-result-2 : tie.Need-slice-aggregate-result-2
-slice-aggregate-result-2 c = search needs
-
-returns : tie.Need-returns
-returns c = ap (λ (p : Said ℕ). viewPart p (now (c .before .before .before .before .before .before .before .args .s))) (learnt saidCount (c .before .before .read .given .1) (c .before .before .before .before .validate-prefix .ensures))
-
-returns-2 : tie.Need-returns-2
-returns-2 c = ap (λ (p : Said ℕ). viewPart p (now (c .before .before .before .before .before .before .args .s))) (learnt saidCount (c .before .enum-told .given .1) (c .before .before .before .validate-prefix .ensures))
-
-pub cast-prefix-mut-spec : {M : Type 1} → statement M
-cast-prefix-mut-spec =
-    tie.close
-    (tie.spec
-    validate-prefix-requires
-    enum-known-read
-    slice-aggregate-result
-    enum-told
-    slice-aggregate-result-2
-    returns
-    returns-2)
+pub cast-prefix-mut-spec : {M : Type 1} → stated.statement M
+unfolding code.routine tablesOf
+cast-prefix-mut-spec 𝓤 H 𝓜 𝓖 𝓡 =
+    entered 𝓤 H (tripleOf 𝓤 H (𝓖 .A) f.signature (f.spec 𝓤 H (𝓖 .A) (𝓜 .mem) (𝓡 .run)))
+    (tables 𝓤 H 𝓜 𝓡 code.env .C) (tables 𝓤 H 𝓜 𝓡 code.env .Λ) #this code.function (code.unfolded 𝓤 H 𝓜 𝓡)
+    (hands-out-by usize (tyInt w64) (λ n. vint w64 n) (uint-tells w64) (λ n is. (tt, record { fits = is .1 })) (λ n. tt) (λ n f. refl) #range range 𝓤 H (𝓖 .A) (givenOf 𝓤 H 𝓜 𝓖) (𝓜 .mem) (𝓡 .run) (tablesOf 𝓤 H 𝓜 (tables 𝓤 H 𝓜 𝓡 code.env))
+    (cited 𝓤 H (Ranges usize (tyInt w64) (λ n. vint w64 n) (uint-tells w64) (λ n is. (tt, record { fits = is .1 })) (λ n. tt) (λ n f. refl) #range range 𝓤 H (𝓖 .A)) 𝓜 𝓡 code.env #range range-def.routine code.calls-buffer·view·cast-prefix-range (range-thm.met 𝓤 H 𝓜 𝓖 𝓡))
+    (cited 𝓤 H (PartMut 𝓤 H (𝓖 .A) (𝓜 .mem) (𝓡 .run)) 𝓜 𝓡 code.env #part-mut part-def.routine code.calls-base·part·part-mut (part-thm.met 𝓤 H 𝓜 𝓖 𝓡)))

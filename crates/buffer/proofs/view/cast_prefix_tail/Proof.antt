@@ -1,57 +1,18 @@
--- `buffer::view::cast_prefix_tail` meets its contract: the part starts where `validate_prefix` said, within the bytes, and is empty where it refused.
+-- `buffer::view::cast_prefix_tail` meets its contract: the part is that of the range read.
 -- Assumes nothing.
-use mathlib.Core.Path.{ap, _∙_}
-use Prim.Native.Nat.{ℕ}
-use denote.Ref.{now}
-use Rattle.base.specs.Answer.{saidCount}
-use Rattle.base.specs.Said.{Said}
-use Rattle.base.proofs.Answers.{learnt}
-use Rattle.base.proofs.Lists.{take-rest}
-use Rattle.buffer.specs.View.{tailPart}
-use Rattle.buffer.proofs.Views.{prefix-fits}
 use borrow.Author.Needs.{needs}
+use Rattle.base.proofs.Parts.{as-told}
 use Rattle.buffer.proofs.view.cast_prefix_tail.Statement.{statement}
 use Rattle.buffer.proofs.view.cast_prefix_tail.Tie as tie
 
-validate-prefix-requires : tie.Need-validate-prefix-requires
-validate-prefix-requires c κs = search needs
+prefix-tail-range-requires : tie.Need-prefix-tail-range-requires
+prefix-tail-range-requires c κs = search needs
 
-enum-known-read : tie.Need-enum-known-read
-enum-known-read c = search needs
-
-sub-result : tie.Need-sub-result
-sub-result c = prefix-fits _ _ (learnt saidCount (c .before .read .given .1) (c .before .before .before .validate-prefix .ensures)) .1
-
-part-result-start : tie.Need-part-result-start
-part-result-start c = prefix-fits _ _ (learnt saidCount (c .before .read .given .1) (c .before .before .before .validate-prefix .ensures)) .1
-
-part-result-end : tie.Need-part-result-end
-part-result-end c = search needs
-
-enum-told : tie.Need-enum-told
-enum-told c = search needs
-
-slice-aggregate-result : tie.Need-slice-aggregate-result
-slice-aggregate-result c = search needs
+part-requires : tie.Need-part-requires
+part-requires c κs = search needs
 
 returns : tie.Need-returns
-returns c =
-    let s = now (c .before .before .before .before .before .before .args .s) in
-    take-rest (c .before .before .read .given .0 .0) s ∙ ap (λ (p : Said ℕ). tailPart p s) (learnt saidCount (c .before .before .read .given .1) (c .before .before .before .before .validate-prefix .ensures))
-
-returns-2 : tie.Need-returns-2
-returns-2 c = ap (λ (p : Said ℕ). tailPart p (now (c .before .before .before .before .before .args .s))) (learnt saidCount (c .before .enum-told .given .1) (c .before .before .before .validate-prefix .ensures))
+returns c = as-told (c .before .before .before .args .s) (c .before .prefix-tail-range .ensures) (c .part .ensures)
 
 pub cast-prefix-tail-spec : {M : Type 1} → statement M
-cast-prefix-tail-spec =
-    tie.close
-    (tie.spec
-    validate-prefix-requires
-    enum-known-read
-    sub-result
-    part-result-start
-    part-result-end
-    enum-told
-    slice-aggregate-result
-    returns
-    returns-2)
+cast-prefix-tail-spec = tie.close (tie.spec prefix-tail-range-requires part-requires returns)

@@ -1,57 +1,42 @@
--- `buffer::view::cast_prefix_tail_mut` meets its contract: the part starts where `validate_prefix` said, within the bytes, and is empty where it refused.
+-- `buffer::view::cast_prefix_tail_mut` meets its contract: it hands out the part of the range read (base, `HandingBy.antt`, at a number).
 -- Assumes nothing.
-use mathlib.Core.Path.{ap, _∙_}
 use Prim.Native.Nat.{ℕ}
-use denote.Ref.{now}
-use Rattle.base.specs.Answer.{saidCount}
+use mathlib.Core.List.{List}
+use contract.Running.{givenOf, tables, tablesOf}
+use mathlib.Core.Path.{refl}
+use mir.Syntax.{tyInt, w64}
+use mir.Val.{vint}
+use denote.Builtin.{usize}
+use denote.Plain.{uint-tells}
+use denote.Triple.Spec.{tripleOf}
+use denote.Triple.Table.{entered, cited}
+use Rattle.base.specs.Answer.{Part}
 use Rattle.base.specs.Said.{Said}
-use Rattle.base.proofs.Answers.{learnt}
-use Rattle.base.proofs.Lists.{take-rest}
-use Rattle.buffer.specs.View.{tailPart}
-use Rattle.buffer.proofs.Views.{prefix-fits}
-use borrow.Author.Needs.{needs}
-use Rattle.buffer.proofs.view.cast_prefix_tail_mut.Statement.{statement}
-use Rattle.buffer.proofs.view.cast_prefix_tail_mut.Tie as tie
+use lib.ListN.{length}
+use Rattle.base.specs.Parts.{behind, upTo}
+use Rattle.buffer.specs.View.{prefix}
+use Rattle.base.proofs.Handing.{PartMut}
+use Rattle.base.proofs.HandingBy.{Ranges, hands-out-by}
+use Rattle.base.proofs.part.part_mut.Symbol as part-def
+use Rattle.base.proofs.part.part_mut.Symbol.{name as #part-mut}
+use Rattle.base.proofs.part.part_mut.Met as part-thm
+use Rattle.buffer.proofs.view.prefix_tail_range.Symbol as range-def
+use Rattle.buffer.proofs.view.prefix_tail_range.Symbol.{name as #range}
+use Rattle.buffer.proofs.view.prefix_tail_range.Met as range-thm
+use Rattle.buffer.proofs.view.cast_prefix_tail_mut.Key.{name as #this}
+use Rattle.buffer.proofs.view.cast_prefix_tail_mut as f
+use Rattle.buffer.proofs.view.cast_prefix_tail_mut.Statement as stated
+use Rattle.buffer.proofs.view.cast_prefix_tail_mut.Code as code
 
-validate-prefix-requires : tie.Need-validate-prefix-requires
-validate-prefix-requires c κs = search needs
+-- the range, of all the bytes
+abbrev range : ℕ → List ℕ → Said Part
+range capacity s = behind (upTo (prefix capacity s)) (length s)
 
-enum-known-read : tie.Need-enum-known-read
-enum-known-read c = search needs
-
-sub-result : tie.Need-sub-result
-sub-result c = prefix-fits _ _ (learnt saidCount (c .before .read .given .1) (c .before .before .before .validate-prefix .ensures)) .1
-
-part-s-start : tie.Need-part-s-start
-part-s-start c = prefix-fits _ _ (learnt saidCount (c .before .read .given .1) (c .before .before .before .validate-prefix .ensures)) .1
-
-part-s-end : tie.Need-part-s-end
-part-s-end c = search needs
-
-enum-told : tie.Need-enum-told
-enum-told c = search needs
-
-slice-aggregate-result : tie.Need-slice-aggregate-result
-slice-aggregate-result c = search needs
-
-returns : tie.Need-returns
-returns c =
-    let s = now (c .before .before .before .before .before .before .before .args .s) in
-    take-rest (c .before .before .read .given .0 .0) s ∙ ap (λ (p : Said ℕ). tailPart p s) (learnt saidCount (c .before .before .read .given .1) (c .before .before .before .before .validate-prefix .ensures))
-
-returns-2 : tie.Need-returns-2
-returns-2 c = ap (λ (p : Said ℕ). tailPart p (now (c .before .before .before .before .before .before .args .s))) (learnt saidCount (c .before .enum-told .given .1) (c .before .before .before .validate-prefix .ensures))
-
-pub cast-prefix-tail-mut-spec : {M : Type 1} → statement M
-cast-prefix-tail-mut-spec =
-    tie.close
-    (tie.spec
-    validate-prefix-requires
-    enum-known-read
-    sub-result
-    part-s-start
-    part-s-end
-    enum-told
-    slice-aggregate-result
-    returns
-    returns-2)
+pub cast-prefix-tail-mut-spec : {M : Type 1} → stated.statement M
+unfolding code.routine tablesOf
+cast-prefix-tail-mut-spec 𝓤 H 𝓜 𝓖 𝓡 =
+    entered 𝓤 H (tripleOf 𝓤 H (𝓖 .A) f.signature (f.spec 𝓤 H (𝓖 .A) (𝓜 .mem) (𝓡 .run)))
+    (tables 𝓤 H 𝓜 𝓡 code.env .C) (tables 𝓤 H 𝓜 𝓡 code.env .Λ) #this code.function (code.unfolded 𝓤 H 𝓜 𝓡)
+    (hands-out-by usize (tyInt w64) (λ n. vint w64 n) (uint-tells w64) (λ n is. (tt, record { fits = is .1 })) (λ n. tt) (λ n f. refl) #range range 𝓤 H (𝓖 .A) (givenOf 𝓤 H 𝓜 𝓖) (𝓜 .mem) (𝓡 .run) (tablesOf 𝓤 H 𝓜 (tables 𝓤 H 𝓜 𝓡 code.env))
+    (cited 𝓤 H (Ranges usize (tyInt w64) (λ n. vint w64 n) (uint-tells w64) (λ n is. (tt, record { fits = is .1 })) (λ n. tt) (λ n f. refl) #range range 𝓤 H (𝓖 .A)) 𝓜 𝓡 code.env #range range-def.routine code.calls-buffer·view·prefix-tail-range (range-thm.met 𝓤 H 𝓜 𝓖 𝓡))
+    (cited 𝓤 H (PartMut 𝓤 H (𝓖 .A) (𝓜 .mem) (𝓡 .run)) 𝓜 𝓡 code.env #part-mut part-def.routine code.calls-base·part·part-mut (part-thm.met 𝓤 H 𝓜 𝓖 𝓡)))

@@ -1,39 +1,18 @@
--- `buffer::view::data` meets its contract: the part starts behind the length field, and is empty where that is not whole.
+-- `buffer::view::data` meets its contract: the part is that of the range read.
 -- Assumes nothing.
-use mathlib.Core.Path.{sym}
-use native.Mathlib.Omega.{arith}
-use lib.ListN.{drop-of-length-le}
-use denote.Ref.{now}
-use Rattle.base.proofs.Lists.{take-rest}
 use borrow.Author.Needs.{needs}
+use Rattle.base.proofs.Parts.{as-told}
 use Rattle.buffer.proofs.view.data.Statement.{statement}
 use Rattle.buffer.proofs.view.data.Tie as tie
 
-slice-aggregate-result : tie.Need-slice-aggregate-result
-slice-aggregate-result c = search needs
+data-range-requires : tie.Need-data-range-requires
+data-range-requires c κs = search needs
 
-sub-result : tie.Need-sub-result
-sub-result c = search needs
-
-part-result-start : tie.Need-part-result-start
-part-result-start c = search needs
-
-part-result-end : tie.Need-part-result-end
-part-result-end c = search needs
+part-requires : tie.Need-part-requires
+part-requires c κs = search needs
 
 returns : tie.Need-returns
-returns c = sym (drop-of-length-le (now (c .before .before .args .s)) {i = 2} (omega arith))
-
-returns-2 : tie.Need-returns-2
-returns-2 c = take-rest 2 (now (c .before .before .args .s))
+returns c = as-told (c .before .before .before .args .s) (c .before .data-range .ensures) (c .part .ensures)
 
 pub data-spec : {M : Type 1} → statement M
-data-spec =
-    tie.close
-    (tie.spec
-    slice-aggregate-result
-    sub-result
-    part-result-start
-    part-result-end
-    returns
-    returns-2)
+data-spec = tie.close (tie.spec data-range-requires part-requires returns)

@@ -1,33 +1,34 @@
--- `buffer::view::data_mut` meets its contract: the part starts behind the length field, and is empty where that is not whole.
+-- `buffer::view::data_mut` meets its contract: it hands out the part of the range read (base, `Handing.antt`).
 -- Assumes nothing.
-use mathlib.Core.Path.{sym}
-use native.Mathlib.Omega.{arith}
-use lib.ListN.{drop-of-length-le}
-use denote.Ref.{now}
-use Rattle.base.proofs.Lists.{take-rest}
-use borrow.Author.Needs.{needs}
-use Rattle.buffer.proofs.view.data_mut.Statement.{statement}
-use Rattle.buffer.proofs.view.data_mut.Tie as tie
+use Prim.Native.Nat.{ℕ}
+use mathlib.Core.List.{List}
+use contract.Running.{givenOf, tables, tablesOf}
+use denote.Triple.Spec.{tripleOf}
+use denote.Triple.Table.{entered, cited}
+use Rattle.base.specs.Answer.{Part}
+use Rattle.base.specs.Said.{Said}
+use Rattle.buffer.specs.View.{dataRange}
+use Rattle.base.proofs.Handing.{PartMut, Ranges, hands-out}
+use Rattle.base.proofs.part.part_mut.Symbol as part-def
+use Rattle.base.proofs.part.part_mut.Symbol.{name as #part-mut}
+use Rattle.base.proofs.part.part_mut.Met as part-thm
+use Rattle.buffer.proofs.view.data_range.Symbol as range-def
+use Rattle.buffer.proofs.view.data_range.Symbol.{name as #range}
+use Rattle.buffer.proofs.view.data_range.Met as range-thm
+use Rattle.buffer.proofs.view.data_mut.Key.{name as #this}
+use Rattle.buffer.proofs.view.data_mut as f
+use Rattle.buffer.proofs.view.data_mut.Statement as stated
+use Rattle.buffer.proofs.view.data_mut.Code as code
 
-slice-aggregate-result : tie.Need-slice-aggregate-result
-slice-aggregate-result c = search needs
+-- the range, of all the bytes
+abbrev range : List ℕ → Said Part
+range s = dataRange s
 
-sub-result : tie.Need-sub-result
-sub-result c = search needs
-
-part-s-start : tie.Need-part-s-start
-part-s-start c = search needs
-
-part-s-end : tie.Need-part-s-end
-part-s-end c = search needs
-
-returns : tie.Need-returns
-returns c = sym (drop-of-length-le (now (c .before .before .args .s)) {i = 2} (omega arith))
-
-returns-2 : tie.Need-returns-2
-returns-2 c = take-rest 2 (now (c .before .before .args .s))
-
-pub data-mut-spec : {M : Type 1} → statement M
-data-mut-spec =
-    tie.close
-    (tie.spec slice-aggregate-result sub-result part-s-start part-s-end returns returns-2)
+pub data-mut-spec : {M : Type 1} → stated.statement M
+unfolding code.routine tablesOf
+data-mut-spec 𝓤 H 𝓜 𝓖 𝓡 =
+    entered 𝓤 H (tripleOf 𝓤 H (𝓖 .A) f.signature (f.spec 𝓤 H (𝓖 .A) (𝓜 .mem) (𝓡 .run)))
+    (tables 𝓤 H 𝓜 𝓡 code.env .C) (tables 𝓤 H 𝓜 𝓡 code.env .Λ) #this code.function (code.unfolded 𝓤 H 𝓜 𝓡)
+    (hands-out #range range 𝓤 H (𝓖 .A) (givenOf 𝓤 H 𝓜 𝓖) (𝓜 .mem) (𝓡 .run) (tablesOf 𝓤 H 𝓜 (tables 𝓤 H 𝓜 𝓡 code.env))
+    (cited 𝓤 H (Ranges #range range 𝓤 H (𝓖 .A)) 𝓜 𝓡 code.env #range range-def.routine code.calls-buffer·view·data-range (range-thm.met 𝓤 H 𝓜 𝓖 𝓡))
+    (cited 𝓤 H (PartMut 𝓤 H (𝓖 .A) (𝓜 .mem) (𝓡 .run)) 𝓜 𝓡 code.env #part-mut part-def.routine code.calls-base·part·part-mut (part-thm.met 𝓤 H 𝓜 𝓖 𝓡)))

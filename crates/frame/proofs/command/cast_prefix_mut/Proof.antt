@@ -6,9 +6,9 @@ use contract.Running.{givenOf, tables, tablesOf}
 use denote.Triple.Spec.{tripleOf}
 use denote.Triple.Table.{entered, cited}
 use Rattle.base.specs.Answer.{Part}
+use Rattle.base.specs.Parts.{upTo}
 use Rattle.base.specs.Said.{Said}
 use Rattle.table.specs.Dispatch.{dispatch, commandCodes}
-use Rattle.frame.specs.Answer.{upTo}
 use Rattle.frame.specs.Command.{castCommandPrefix}
 use Rattle.base.proofs.Handing.{PartMut, Ranges, hands-out}
 use Rattle.base.proofs.part.part_mut.Symbol as part-def

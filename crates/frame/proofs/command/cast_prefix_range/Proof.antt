@@ -7,7 +7,8 @@ use lib.Seq.{length-take-le}
 use Rattle.frame.specs.Header.{framePrefix}
 use Rattle.frame.specs.Command.{judgeCommand, castCommandPrefix}
 use Rattle.base.specs.Answer.{saidCount}
-use Rattle.frame.specs.Answer.{saidAreas, upTo}
+use Rattle.base.specs.Parts.{upTo}
+use Rattle.frame.specs.Answer.{saidAreas}
 use Rattle.table.specs.Dispatch.{dispatch, commandCodes}
 use Rattle.base.proofs.Answers.{learnt}
 use Rattle.base.proofs.Checks.{goes-on, stops}

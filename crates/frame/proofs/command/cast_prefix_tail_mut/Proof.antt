@@ -8,9 +8,8 @@ use denote.Triple.Table.{entered, cited}
 use Rattle.base.specs.Answer.{Part}
 use Rattle.base.specs.Said.{Said}
 use lib.ListN.{length}
-use Rattle.base.specs.Parts.{behind}
+use Rattle.base.specs.Parts.{behind, upTo}
 use Rattle.table.specs.Dispatch.{dispatch, commandCodes}
-use Rattle.frame.specs.Answer.{upTo}
 use Rattle.frame.specs.Command.{castCommandPrefix}
 use Rattle.base.proofs.Handing.{PartMut, Ranges, hands-out}
 use Rattle.base.proofs.part.part_mut.Symbol as part-def

@@ -6,8 +6,8 @@ use contract.Running.{givenOf, tables, tablesOf}
 use denote.Triple.Spec.{tripleOf}
 use denote.Triple.Table.{entered, cited}
 use Rattle.base.specs.Answer.{Part}
+use Rattle.base.specs.Parts.{upTo}
 use Rattle.base.specs.Said.{Said}
-use Rattle.frame.specs.Answer.{upTo}
 use Rattle.frame.specs.Response.{castResponsePrefix}
 use Rattle.base.proofs.Handing.{PartMut, Ranges, hands-out}
 use Rattle.base.proofs.part.part_mut.Symbol as part-def

@@ -7,7 +7,7 @@ use lib.Seq.{length-take-le}
 use Rattle.frame.specs.Header.{framePrefix}
 use Rattle.frame.specs.Response.{judgeResponse, castResponsePrefix}
 use Rattle.base.specs.Answer.{saidCount, saidNumber32}
-use Rattle.frame.specs.Answer.{upTo}
+use Rattle.base.specs.Parts.{upTo}
 use Rattle.base.proofs.Answers.{learnt}
 use Rattle.base.proofs.Checks.{goes-on, stops}
 use Rattle.frame.proofs.Headers.{prefix-fits}

@@ -8,8 +8,7 @@ use denote.Triple.Table.{entered, cited}
 use Rattle.base.specs.Answer.{Part}
 use Rattle.base.specs.Said.{Said}
 use lib.ListN.{length}
-use Rattle.base.specs.Parts.{behind}
-use Rattle.frame.specs.Answer.{upTo}
+use Rattle.base.specs.Parts.{behind, upTo}
 use Rattle.frame.specs.Response.{castResponsePrefix}
 use Rattle.base.proofs.Handing.{PartMut, Ranges, hands-out}
 use Rattle.base.proofs.part.part_mut.Symbol as part-def
