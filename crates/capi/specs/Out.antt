@@ -36,13 +36,6 @@ truth b = cond b 1 0 ∷ []
 abbrev pub ends : Part → List ℕ
 ends p = p .from ∷ p .to ∷ []
 
--- of a part that starts at the start, where it ends; and with what is behind it, of so many bytes in all
-abbrev pub fromStart : ℕ → List ℕ
-fromStart n = 0 ∷ n ∷ []
-
-abbrev pub withTail : ℕ → ℕ → List ℕ
-withTail all n = 0 ∷ n ∷ n ∷ all ∷ []
-
 abbrev pub none : {A : Type 0} → A → List ℕ
 none a = []
 

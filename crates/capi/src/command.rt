@@ -1,9 +1,10 @@
 // Commands, of frame::command. A part goes out as its start and its end.
 ghost use mathlib.Core.Path.{_≡_};
 ghost use lib.ListN.{length};
+ghost use Rattle.base.specs.Parts.{upTo};
 ghost use Rattle.base.specs.Said.{after, done};
 ghost use Rattle.table.specs.Dispatch.{commandCodes, dispatch};
-ghost use Rattle.frame.specs.Answer.{commandByValue, upTo, whole};
+ghost use Rattle.frame.specs.Answer.{commandByValue, whole};
 ghost use Rattle.frame.specs.Command.{authRange, castCommand, castCommandPrefix, handlesRange, parametersRange, readCommand};
 ghost use Rattle.frame.specs.Header.{readCc, setCc};
 ghost use Rattle.frame.specs.declared.command.Command.{Command};

@@ -1,9 +1,10 @@
 // Responses, of frame::response. A part goes out as its start and its end.
 ghost use mathlib.Core.Path.{_≡_};
 ghost use lib.ListN.{length};
+ghost use Rattle.base.specs.Parts.{upTo};
 ghost use Rattle.base.specs.Said.{after, done};
 ghost use Rattle.table.specs.Dispatch.{dispatch};
-ghost use Rattle.frame.specs.Answer.{responseByValue, upTo, whole};
+ghost use Rattle.frame.specs.Answer.{responseByValue, whole};
 ghost use Rattle.frame.specs.Header.{readRc, setRc};
 ghost use Rattle.frame.specs.Response.{bodyRange, castResponse, castResponsePrefix, readResponse};
 ghost use Rattle.frame.specs.declared.response.Response.{Response};

@@ -1,12 +1,12 @@
 // The TPM2B view, of buffer::view. A part goes out as its start and its end.
 ghost use lib.ListN.{length};
+ghost use Rattle.base.specs.Parts.{upTo};
 ghost use Rattle.base.specs.Said.{done, gives};
 ghost use Rattle.buffer.specs.View.{dataRange, isEmpty, prefix, readSize, whole};
-ghost use Rattle.capi.specs.Out.{Reports, ends, fromStart, none, one, truth, withTail};
+ghost use Rattle.capi.specs.Frame.{partAndTail};
+ghost use Rattle.capi.specs.Out.{Reports, ends, none, one, truth};
 use crate::out;
 use crate::out::Numbers;
-use base::answer::Count;
-use base::answer::Outcome;
 
 #[no_mangle]
 pub extern "C" fn skein_tpm2b_validate_prefix(capacity: usize, s: &[u8], out: &mut Numbers) -> u32
@@ -25,36 +25,17 @@ pub extern "C" fn skein_tpm2b_validate(capacity: usize, s: &[u8], out: &mut Numb
 // Where the view of s whole stands.
 #[no_mangle]
 pub extern "C" fn skein_tpm2b_cast(capacity: usize, s: &[u8], out: &mut Numbers) -> u32
-    ensures { λ r. ⌜ Reports fromStart (whole capacity (now (s .entry))) (now (out .entry)) (now (out .exit)) r ⌝ }
+    ensures { λ r. ⌜ Reports ends (upTo (whole capacity (now (s .entry)))) (now (out .entry)) (now (out .exit)) r ⌝ }
 {
-    let read = buffer::view::validate(capacity, s);
-    match read {
-        Outcome::Refused(e) => out::refuse(e, out),
-        Outcome::Done => {
-            let view = buffer::view::cast(capacity, s);
-            out::two(0, 0, view.len() as u64, out)
-        }
-    }
+    out::range(buffer::view::cast_range(capacity, s), out)
 }
 
 // Where the view of the TPM2B at the start stands, and where what is behind it.
 #[no_mangle]
 pub extern "C" fn skein_tpm2b_cast_prefix(capacity: usize, s: &[u8], out: &mut Numbers) -> u32
-    ensures { λ r. ⌜ Reports (withTail (length (now (s .entry)))) (prefix capacity (now (s .entry))) (now (out .entry)) (now (out .exit)) r ⌝ }
+    ensures { λ r. ⌜ Reports (partAndTail (length (now (s .entry)))) (upTo (prefix capacity (now (s .entry)))) (now (out .entry)) (now (out .exit)) r ⌝ }
 {
-    let read = buffer::view::validate_prefix(capacity, s);
-    match read {
-        Count::Refused(e) => out::refuse(e, out),
-        Count::Is(_) => {
-            let view = buffer::view::cast_prefix(capacity, s);
-            let tail = buffer::view::cast_prefix_tail(capacity, s);
-            out[0] = 0;
-            out[1] = view.len() as u64;
-            out[2] = view.len() as u64;
-            out[3] = (view.len() + tail.len()) as u64;
-            0
-        }
-    }
+    out::with_tail(buffer::view::cast_prefix_range(capacity, s), s.len(), out)
 }
 
 #[no_mangle]
