@@ -1,12 +1,13 @@
 -- A rule of a constant table is one test that antt computes over the whole table, and these laws turn it into the rule
--- at each number and at each member.
+-- at each number and at each member; and what is left for the last arm of a `match` on a number.
 -- Assumes nothing.
 use mathlib.Core.Path.{_≡_, refl, sym}
 use mathlib.Core.Bool.{Bool, true, false, _&&_, Bool·beq, and-eq-true-iff, false≢true}
 use mathlib.Core.List.{List, [], _∷_}
-use Prim.Native.Nat.{ℕ, zero, suc, _<_}
+use Prim.Native.Nat.{ℕ, zero, suc, _≤_, _<_, zero-le}
 use native.Mathlib.Numerals.{add-one}
 use native.Mathlib.Nat.{not-suc-le-zero}
+use native.Mathlib.Omega.{arith}
 use borrow.Author.Count.{below-more}
 use borrow.Author.Tests.{eqb-true}
 use lib.Dec.{eqb}
@@ -44,3 +45,16 @@ agree true true e = refl
 agree true false e = sym e
 agree false true e = e
 agree false false e = refl
+
+-- what the last arm of a `match` on a number knows where the arms before it have the numbers below k: n is none of them ..
+abbrev pub NoneBelow : ℕ → ℕ → Type 0
+NoneBelow zero n = Unit {0}
+NoneBelow (suc k) n = NoneBelow k n × (n ≡ k → ⊥)
+
+-- .. so it is k or more
+pub none-below : (k n : ℕ) → NoneBelow k n → k ≤ n
+none-below zero n none = zero-le
+none-below (suc k) n none =
+    let others = none-below k n (none .0) in
+    let other = none .1 in
+    omega arith

@@ -1,26 +1,34 @@
--- The search of a dispatch table, over any rows that rise strictly by code: what the row at a place tells of the others, and what a
--- part of the rows tells of the whole; and what is known of the row that a search finds.
+-- The search of a dispatch table, over any rows: where the parts have the row of a place, what the row at a place of rows that rise
+-- strictly by code tells of the others, and what is known of the row that a search finds.
 -- Assumes nothing.
 use mathlib.Core.Path.{_≡_, refl, sym, _∙_, ap}
-use mathlib.Core.Bool.{Bool, true, false, _&&_, _||_, cond, and-eq-true-iff, false≢true}
-use mathlib.Core.List.{List, [], _∷_, _++_}
+use mathlib.Core.Bool.{Bool, true, false, _&&_, _||_, cond, and-eq-true-iff}
+use mathlib.Core.List.{List, [], _∷_}
 use mathlib.Core.Logic.{⊎-elim}
-use Prim.Native.Nat.{ℕ, zero, suc, _+_, _/_, _≤_, _<_, zero-le, suc-le-suc}
+use Prim.Native.Nat.{ℕ, zero, suc, _+_, _*_, _/_, _%_, _≤_, _<_, zero-le, suc-le-suc}
 use native.Mathlib.Nat.{le-of-suc-le-suc, not-suc-le-zero, le-refl, lt-of-not-le}
 use native.Mathlib.Omega.{arith}
-use borrow.Author.Tests.{ltb-true, lt-ltb, leb-true, eqb-true, eq-eqb, ne-eqb}
+use borrow.Author.Tests.{ltb-true, leb-true, eq-eqb, ne-eqb}
 use lib.Dec.{eqb, leb}
-use lib.ListN.{length, getD}
+use lib.ListN.{length, getD, drop}
+use lib.Seq.{getD-take, getD-drop}
 use Rattle.base.specs.Members.{isIn}
 use Rattle.base.specs.Said.{Said, gives, refuses, given}
 use Rattle.base.proofs.Checks.{gives≢refuses, gives-injective, cond-gives}
 use Rattle.table.specs.declared.row.Row.{Row}
-use Rattle.table.specs.Packed.{rowOf, unpacked}
-use Rattle.table.specs.Table.{rowFor, codes, belowFirst, rising, few}
+use Rattle.table.specs.Table.{rowFor, codes, belowFirst, rising, few, part, none}
 
 -- the code at a place
 abbrev pub codeAt : List Row → ℕ → ℕ
-codeAt rows i = getD (codes rows) i 0
+codeAt rows i = getD rows i none .code
+
+-- the row at a place stands in the part of its eight
+pub in-part : (rows : List Row) (k place : ℕ) → place / 8 ≡ k → getD (part rows k) (place % 8) none ≡ getD rows place none
+in-part rows k place e =
+    let here : 8 * k + place % 8 ≡ place = omega arith in
+    getD-take 8 (drop (8 * k) rows) (place % 8) none (omega arith)
+    ∙ getD-drop (8 * k) rows (place % 8) none
+    ∙ ap (λ (i : ℕ). getD rows i none) here
 
 -- rising rows: the first row's code is below the next one's, and the others rise
 next-and-rest : (r : Row) (rows : List Row) → rising (r ∷ rows) ≡ true → (belowFirst (r .code) rows ≡ true) × (rising rows ≡ true)
@@ -52,13 +60,17 @@ codes-ordered (r ∷ rows) e (suc i) (suc j) h k =
     codes-ordered rows (next-and-rest r rows e .1) i j (le-of-suc-le-suc h) (le-of-suc-le-suc k)
 
 -- the row at a place is the row of its code
-pub row-at : (rows : List Row) → rising rows ≡ true → (i : ℕ) (d : Row) → i < length rows
-    → gives (getD rows i d) ≡ rowFor rows (codeAt rows i)
-row-at [] e i d h = absurd (not-suc-le-zero h)
-row-at (r ∷ rows) e zero d h = simp (eq-eqb (r .code) (r .code) refl)
-row-at (r ∷ rows) e (suc i) d h =
+pub row-at : (rows : List Row) → rising rows ≡ true → (i : ℕ) → i < length rows → gives (getD rows i none) ≡ rowFor rows (codeAt rows i)
+row-at [] e i h = absurd (not-suc-le-zero h)
+row-at (r ∷ rows) e zero h = simp (eq-eqb (r .code) (r .code) refl)
+row-at (r ∷ rows) e (suc i) h =
     let above = above-first r rows e i (le-of-suc-le-suc h) in
-    simp (ne-eqb (codeAt rows i) (r .code) (λ q. omega arith)) (row-at rows (next-and-rest r rows e .1) i d (le-of-suc-le-suc h))
+    simp (ne-eqb (codeAt rows i) (r .code) (λ q. omega arith)) (row-at rows (next-and-rest r rows e .1) i (le-of-suc-le-suc h))
+
+-- so is one that was read there, of the code that it has
+pub row-here : (rows : List Row) → rising rows ≡ true → (i : ℕ) → i < length rows → {r : Row} → r ≡ getD rows i none → {code : ℕ}
+    → r .code ≡ code → gives r ≡ rowFor rows code
+row-here rows e i h read t = ap gives read ∙ row-at rows e i h ∙ ap (rowFor rows) (sym (ap (λ (r : Row). r .code) read) ∙ t)
 
 -- a code that stands at no place is refused
 pub no-row : (rows : List Row) (code : ℕ) → ((k : ℕ) → k < length rows → code ≡ codeAt rows k → ⊥)
@@ -106,77 +118,13 @@ module _ {rows : List Row} {code lo hi : ℕ} (b : Between rows code lo hi) wher
       behind = λ k l s. let high = codes-ordered rows e m k l s in omega arith;
     }
 
--- what is unpacked stands where it was packed
-pub length-unpacked : (s : List ℕ) → length (unpacked s) ≡ length s
-length-unpacked [] = refl
-length-unpacked (n ∷ s) = ap suc (length-unpacked s)
-
-unpacked-at : (s : List ℕ) (i : ℕ) → getD (unpacked s) i (rowOf 0) ≡ rowOf (getD s i 0)
-unpacked-at [] i = refl
-unpacked-at (n ∷ s) zero = refl
-unpacked-at (n ∷ s) (suc i) = unpacked-at s i
-
-pub code-unpacked-at : (s : List ℕ) (i : ℕ) → codeAt (unpacked s) i ≡ getD s i 0 / 256
-code-unpacked-at [] i = refl
-code-unpacked-at (n ∷ s) zero = refl
-code-unpacked-at (n ∷ s) (suc i) = code-unpacked-at s i
-
--- the packed row at a place is the row of its code
-pub packed-row-at : (s : List ℕ) → rising (unpacked s) ≡ true → (i : ℕ) → i < length s → {code : ℕ} → getD s i 0 / 256 ≡ code
-    → gives (rowOf (getD s i 0)) ≡ rowFor (unpacked s) code
-packed-row-at s e i h t =
-    rw unpacked-at at (row-at (unpacked s) e i (rowOf 0) (rw length-unpacked h)) ∙ ap (rowFor (unpacked s)) (code-unpacked-at s i ∙ t)
-
--- rows behind others rise too ..
-rising-behind : (a b : List Row) → rising (a ++ b) ≡ true → rising b ≡ true
-rising-behind [] b e = e
-rising-behind (r ∷ a) b e = rising-behind a b (next-and-rest r (a ++ b) e .1)
-
--- .. and start above each of the others
-starts-above : (low high : ℕ) (b : List Row) → low < high → belowFirst high b ≡ true → belowFirst low b ≡ true
-starts-above low high [] h t = refl
-starts-above low high (r ∷ b) h t = let above = ltb-true high (r .code) t in lt-ltb low (r .code) (omega arith)
-
-first-above : (r : Row) (a b : List Row) → rising (r ∷ (a ++ b)) ≡ true → belowFirst (r .code) b ≡ true
-first-above r [] b e = next-and-rest r b e .0
-first-above r (s ∷ a) b e =
-    starts-above (r .code) (s .code) b (ltb-true (r .code) (s .code) (next-and-rest r (s ∷ (a ++ b)) e .0))
-    (first-above s a b (next-and-rest r (s ∷ (a ++ b)) e .1))
-
--- what is below them, and what is not, differ
-not-first : (low code : ℕ) (b : List Row) → belowFirst low b ≡ true → belowFirst code b ≡ false → code ≡ low → ⊥
-not-first low code b t f q = false≢true (sym f ∙ rw q t)
-
 -- what is given by one row or by the others
 given-or : (t : Bool) (r : Row) (s : Said Row) (b : Bool) → given s ≡ b → given (cond t (gives r) s) ≡ (t || b)
 given-or true r s b e = refl
 given-or false r s b e = e
 
 module _ (code : ℕ) where
-  -- a code below the first row behind stands before it, if anywhere
-  pub row-before : (a b : List Row) → rising (a ++ b) ≡ true → belowFirst code b ≡ true → rowFor a code ≡ rowFor (a ++ b) code
-  row-before [] b e t = no-row b code (λ k l q. let above = below-each code b t e k l in omega arith)
-  row-before (r ∷ a) b e t = rw (row-before a b (next-and-rest r (a ++ b) e .1) t)
-
-  -- any other stands behind
-  pub row-behind : (a b : List Row) → rising (a ++ b) ≡ true → belowFirst code b ≡ false → rowFor b code ≡ rowFor (a ++ b) code
-  row-behind [] b e f = refl
-  row-behind (r ∷ a) b e f =
-      simp (ne-eqb code (r .code) (not-first (r .code) code b (first-above r a b e) f)) (row-behind a b (next-and-rest r (a ++ b) e .1) f)
-
-  -- a code that is not below a part's first row, and is below the first row behind the part, stands in the part, if anywhere
-  pub row-within : (a b c : List Row) → rising (a ++ (b ++ c)) ≡ true → belowFirst code (b ++ c) ≡ false → belowFirst code c ≡ true
-      → rowFor b code ≡ rowFor (a ++ (b ++ c)) code
-  row-within a b c e f t = row-before b c (rising-behind a (b ++ c) e) t ∙ row-behind a (b ++ c) e f
-
-  -- the row that is found has the code
-  pub row-code : (rows : List Row) {r : Row} → rowFor rows code ≡ gives r → r .code ≡ code
-  row-code [] g = absurd (gives≢refuses (sym g))
-  row-code (s ∷ rows) g =
-      ⊎-elim (λ h. rw (← gives-injective (h .1)) (sym (eqb-true code (s .code) (h .0)))) (λ h. row-code rows (h .1))
-      (cond-gives (eqb code (s .code)) (gives s) (rowFor rows code) g)
-
-  -- and few handles, where each row has few
+  -- a row that is found has few handles, where each row has few
   pub row-few : (rows : List Row) {r : Row} → few rows ≡ true → rowFor rows code ≡ gives r → (r .handles ≤ 7) × (r .responses ≤ 7)
   row-few [] f g = absurd (gives≢refuses (sym g))
   row-few (s ∷ rows) f g =

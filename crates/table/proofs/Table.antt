@@ -1,19 +1,16 @@
 -- The rules of the port's dispatch table: it rises strictly by code, and each row has few handles. One test that antt computes over
--- the whole table shows both. A search of the part that a code can stand in is a search of the whole.
+-- the whole table shows both; the search and all that is known of a row go by it.
 -- Assumes nothing.
 use mathlib.Core.Path.{_≡_, refl, sym, _∙_, ap}
 use mathlib.Core.Bool.{true, _&&_, and-eq-true-iff}
-use mathlib.Core.List.{List}
-use Prim.Native.Nat.{ℕ, _≤_}
-use borrow.Author.Tests.{le-ltb}
-use lib.Dec.{ltb}
-use lib.ListN.{take, drop, take-append-drop}
+use Prim.Native.Nat.{ℕ, _/_, _%_, _≤_}
+use lib.ListN.{length, getD}
 use Rattle.base.specs.Members.{isIn}
 use Rattle.base.specs.Said.{gives, given}
 use Rattle.table.specs.declared.row.Row.{Row}
-use Rattle.table.specs.Dispatch.{dispatch, part, commandCodes}
-use Rattle.table.specs.Table.{rowFor, belowFirst, rising, few}
-use Rattle.table.proofs.Rows.{row-before, row-within, row-few, row-given}
+use Rattle.table.specs.Dispatch.{dispatch, rows, commandCodes}
+use Rattle.table.specs.Table.{rowFor, rising, few, part, none}
+use Rattle.table.proofs.Rows.{in-part, row-few, row-given}
 
 table-sound : rising dispatch && few dispatch ≡ true
 unfolding dispatch
@@ -25,21 +22,14 @@ table-rising = and-eq-true-iff (rising dispatch) (few dispatch) .0 table-sound .
 pub table-few : few dispatch ≡ true
 table-few = and-eq-true-iff (rising dispatch) (few dispatch) .0 table-sound .1
 
--- the rows behind a part
-abbrev pub behind : ℕ → List Row
-behind n = drop 16 (drop n dispatch)
+pub table-length : length dispatch ≡ 126
+unfolding dispatch
+table-length = refl
 
--- a code below the rows behind the first part has its row in that part, if anywhere
-pub in-first-part : (code : ℕ) → belowFirst code (behind 0) ≡ true → rowFor (part 0) code ≡ rowFor dispatch code
-in-first-part code below = rw take-append-drop at (row-before code (part 0) (behind 0) (rw take-append-drop table-rising) below)
-
--- so has one that is not below a part's first code, and is below the rows behind the part
-pub in-part : (n : ℕ) {first code : ℕ} → first ≤ code → belowFirst code (drop n dispatch) ≡ ltb code first
-    → belowFirst code (behind n) ≡ true → rowFor (part n) code ≡ rowFor dispatch code
-in-part n {first} {code} from start below =
-    simp take-append-drop at
-    (row-within code (take n dispatch) (part n) (behind n) (simp take-append-drop table-rising)
-    (simp take-append-drop (start ∙ le-ltb code first from)) below)
+-- the row at a place of the table stands in the code's part of its eight
+pub row-in-part : (k place : ℕ) → place / 8 ≡ k → getD (part rows k) (place % 8) none ≡ getD dispatch place none
+unfolding dispatch
+row-in-part = in-part rows
 
 module _ (code : ℕ) {r : Row} (found : rowFor dispatch code ≡ gives r) where
   -- a row that is found has few handles, and a code that TpmCc has

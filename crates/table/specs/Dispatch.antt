@@ -3,15 +3,12 @@
 -- Assumes nothing: these are definitions.
 use Prim.Native.Nat.{ℕ}
 use mathlib.Core.List.{List, [], _∷_}
-use lib.ListN.{take, drop}
 use Rattle.table.specs.declared.row.Row.{Row}
-use Rattle.table.specs.Table.{codes}
+use Rattle.table.specs.Table.{row, codes}
 
-abbrev row : ℕ → ℕ → ℕ → Row
-row code handles responses = record { code = code; handles = handles; responses = responses }
-
-unfoldable pub dispatch : List Row
-dispatch =
+-- the rows written out: these always compute, so that the code's parts are held against them
+abbrev pub rows : List Row
+rows =
     row 0x11f 2 0 ∷ row 0x120 2 0 ∷ row 0x121 1 0 ∷ row 0x122 2 0 ∷ row 0x124 1 0 ∷ row 0x125 1 0 ∷ row 0x126 1 0 ∷
     row 0x127 1 0 ∷ row 0x128 1 0 ∷ row 0x129 1 0 ∷ row 0x12a 1 0 ∷ row 0x12b 1 0 ∷ row 0x12c 1 0 ∷ row 0x12d 1 0 ∷
     row 0x12e 1 0 ∷ row 0x12f 2 0 ∷ row 0x130 1 0 ∷ row 0x131 1 1 ∷ row 0x132 1 0 ∷ row 0x133 2 0 ∷ row 0x134 2 0 ∷
@@ -32,10 +29,10 @@ dispatch =
     row 0x19c 1 0 ∷ row 0x19d 1 0 ∷ row 0x19e 1 0 ∷ row 0x19f 1 0 ∷ row 0x1a0 1 0 ∷ row 0x1a1 1 0 ∷ row 0x20000000 0 0 ∷
     []
 
+-- the table: shut, so that what stands above goes by its laws
+unfoldable pub dispatch : List Row
+dispatch = rows
+
 -- the codes that TpmCc has: in the crate, those of the table
 abbrev pub commandCodes : List ℕ
 commandCodes = codes dispatch
-
--- the sixteen rows from a place on
-abbrev pub part : ℕ → List Row
-part n = take 16 (drop n dispatch)

@@ -1,4 +1,3 @@
 pub mod Dispatch
-pub mod Packed
 pub mod Table
 pub mod Tags
