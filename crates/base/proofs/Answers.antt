@@ -1,6 +1,7 @@
 -- An answer is told whole by what it says: each reading of an answer enum is injective.
 -- Assumes nothing.
 use mathlib.Core.Path.{_≡_, refl, sym, _∙_, ap}
+use Prim.Native.Nat.{ℕ}
 use Rattle.base.specs.declared.error.TpmError.{TpmError}
 use Rattle.base.specs.declared.answer.Outcome.{Outcome}
 use Rattle.base.specs.declared.answer.Outcome.the-variants as outcome
@@ -12,10 +13,16 @@ use Rattle.base.specs.declared.answer.Count.{Count}
 use Rattle.base.specs.declared.answer.Count.the-variants as count
 use Rattle.base.specs.declared.answer.Flag.{Flag}
 use Rattle.base.specs.declared.answer.Flag.the-variants as flag
+use Rattle.base.specs.declared.answer.Tag.{Tag}
+use Rattle.base.specs.declared.answer.Tag.the-variants as tag
+use Rattle.base.specs.declared.answer.CommandCode.{CommandCode}
+use Rattle.base.specs.declared.answer.CommandCode.the-variants as command-code
+use Rattle.base.specs.declared.answer.ResponseCode.{ResponseCode}
+use Rattle.base.specs.declared.answer.ResponseCode.the-variants as response-code
 use Rattle.base.specs.declared.answer.Range.{Range}
 use Rattle.base.specs.declared.answer.Range.the-variants as range
 use Rattle.base.specs.Said.{Said, gives, refuses}
-use Rattle.base.specs.Answer.{saidOutcome, saidNumber16, saidNumber32, saidCount, saidFlag, Part, saidRange}
+use Rattle.base.specs.Answer.{saidOutcome, saidNumber16, saidNumber32, saidCount, saidFlag, saidTag, saidCommandCode, saidResponseCode, Part, saidRange}
 use Rattle.base.proofs.Refusals.{named, named-numbered}
 
 -- a function with a left inverse is injective
@@ -65,6 +72,36 @@ told-flag (flag.Refused e) = ap flag.Refused (named-numbered e)
 
 pub saidFlag-injective : (a b : Flag) → saidFlag a ≡ saidFlag b → a ≡ b
 saidFlag-injective = injective-by saidFlag (unsaid flag.Is flag.Refused) told-flag
+
+abbrev tagOf : ℕ → Tag
+tagOf n = tag.Is (record { 0 = n })
+
+told-tag : (a : Tag) → unsaid tagOf tag.Refused (saidTag a) ≡ a
+told-tag (tag.Is t) = refl
+told-tag (tag.Refused e) = ap tag.Refused (named-numbered e)
+
+pub saidTag-injective : (a b : Tag) → saidTag a ≡ saidTag b → a ≡ b
+saidTag-injective = injective-by saidTag (unsaid tagOf tag.Refused) told-tag
+
+abbrev commandCodeOf : ℕ → CommandCode
+commandCodeOf n = command-code.Is (record { 0 = n })
+
+told-command-code : (a : CommandCode) → unsaid commandCodeOf command-code.Refused (saidCommandCode a) ≡ a
+told-command-code (command-code.Is c) = refl
+told-command-code (command-code.Refused e) = ap command-code.Refused (named-numbered e)
+
+pub saidCommandCode-injective : (a b : CommandCode) → saidCommandCode a ≡ saidCommandCode b → a ≡ b
+saidCommandCode-injective = injective-by saidCommandCode (unsaid commandCodeOf command-code.Refused) told-command-code
+
+abbrev responseCodeOf : ℕ → ResponseCode
+responseCodeOf n = response-code.Is (record { 0 = n })
+
+told-response-code : (a : ResponseCode) → unsaid responseCodeOf response-code.Refused (saidResponseCode a) ≡ a
+told-response-code (response-code.Is c) = refl
+told-response-code (response-code.Refused e) = ap response-code.Refused (named-numbered e)
+
+pub saidResponseCode-injective : (a b : ResponseCode) → saidResponseCode a ≡ saidResponseCode b → a ≡ b
+saidResponseCode-injective = injective-by saidResponseCode (unsaid responseCodeOf response-code.Refused) told-response-code
 
 abbrev rangeOf : Part → Range
 rangeOf p = range.Is (p .from) (p .to)

@@ -12,6 +12,12 @@ use Rattle.base.specs.declared.answer.Count.{Count}
 use Rattle.base.specs.declared.answer.Count.the-variants as count
 use Rattle.base.specs.declared.answer.Flag.{Flag}
 use Rattle.base.specs.declared.answer.Flag.the-variants as flag
+use Rattle.base.specs.declared.answer.Tag.{Tag}
+use Rattle.base.specs.declared.answer.Tag.the-variants as tag
+use Rattle.base.specs.declared.answer.CommandCode.{CommandCode}
+use Rattle.base.specs.declared.answer.CommandCode.the-variants as command-code
+use Rattle.base.specs.declared.answer.ResponseCode.{ResponseCode}
+use Rattle.base.specs.declared.answer.ResponseCode.the-variants as response-code
 use Rattle.base.specs.declared.answer.Range.{Range}
 use Rattle.base.specs.declared.answer.Range.the-variants as range
 use Rattle.base.specs.Error.{numbered}
@@ -36,6 +42,19 @@ saidCount (count.Refused e) = refuses (numbered e)
 abbrev pub saidFlag : Flag → Said Bool
 saidFlag (flag.Is x) = gives x
 saidFlag (flag.Refused e) = refuses (numbered e)
+
+-- a tag and the two codes, by their numbers
+abbrev pub saidTag : Tag → Said ℕ
+saidTag (tag.Is t) = gives (t .0)
+saidTag (tag.Refused e) = refuses (numbered e)
+
+abbrev pub saidCommandCode : CommandCode → Said ℕ
+saidCommandCode (command-code.Is c) = gives (c .0)
+saidCommandCode (command-code.Refused e) = refuses (numbered e)
+
+abbrev pub saidResponseCode : ResponseCode → Said ℕ
+saidResponseCode (response-code.Is c) = gives (c .0)
+saidResponseCode (response-code.Refused e) = refuses (numbered e)
 
 -- a part of lent bytes: from its start up to its end
 pub record Part : Type 0 where

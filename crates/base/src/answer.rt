@@ -1,4 +1,7 @@
 // The answers that calls share: what was asked for, or the refusal.
+use crate::code::TpmCc;
+use crate::code::TpmRc;
+use crate::code::TpmSt;
 use crate::error::TpmError;
 
 // Of a call that only does or checks something.
@@ -24,6 +27,22 @@ pub enum Count {
 
 pub enum Flag {
     Is(bool),
+    Refused(TpmError),
+}
+
+// The tag and the two codes of a header, each as its own type: no answer of one kind is taken for another's.
+pub enum Tag {
+    Is(TpmSt),
+    Refused(TpmError),
+}
+
+pub enum CommandCode {
+    Is(TpmCc),
+    Refused(TpmError),
+}
+
+pub enum ResponseCode {
+    Is(TpmRc),
     Refused(TpmError),
 }
 

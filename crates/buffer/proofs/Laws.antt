@@ -11,9 +11,9 @@ use native.Mathlib.Omega.{arith}
 use lib.Dec.{leb}
 use lib.ListN.{length, take, drop, replicate, length-append, length-drop, drop-of-length-le}
 use lib.Seq.{length-take-le, take-at}
-use Rattle.base.specs.Bytes.{AreBytes, bytes}
+use Rattle.base.specs.Bytes.{AreBytes}
 use Rattle.base.specs.Parts.{upTo, behind, partIn}
-use Rattle.base.specs.Said.{Said, gives, then}
+use Rattle.base.specs.Said.{Said, gives}
 use Rattle.base.specs.Tpm2b.{tpm2b}
 use Rattle.base.proofs.Bytes.{number-lt, are-bytes-take}
 use Rattle.base.proofs.Checks.{needs-gives, then-gives, gives-injective}

@@ -165,16 +165,23 @@ module _ (capacity : ℕ) (s : List ℕ) where
   unfolding unmarshalled
   read-done e = rw (← e)
 
-  pub unmarshal-refused : {why : List ℕ} → refuses why ≡ prefix capacity s → new capacity ≡ after (new capacity) (unmarshalled capacity s)
-  unmarshal-refused e = ap (after (new capacity)) (read-refused e)
-
-  -- what a copy of the data to the start of zeros leaves, with its size, is the buffer read
-  pub unmarshal-done : (n : ℕ) (t room : List ℕ) → gives n ≡ prefix capacity s → t ≡ take (n - 2) (drop 2 s)
-      → room ≡ take 0 (replicate capacity 0) ++ (t ++ drop (0 + length t) (replicate capacity 0))
-      → buffer (n - 2) room ≡ after (new capacity) (unmarshalled capacity s)
+  -- a copy of the data to the start of zeros leaves the room of the buffer read
+  pub read-room : (n : ℕ) (t old room : List ℕ) → gives n ≡ prefix capacity s → t ≡ take (n - 2) (drop 2 s)
+      → old ≡ replicate capacity 0 → room ≡ take 0 old ++ (t ++ drop (0 + length t) old)
+      → room ≡ roomAfter old (unmarshalled capacity s)
   unfolding unmarshalled
-  unmarshal-done n t room e q p =
+  read-room n t old room e q zeros p =
       let fits = prefix-fits capacity s e in
       let there : n - 2 ≤ length (drop 2 s) = rw length-drop (omega arith) in
       let size : 0 + length t ≡ n - 2 = zero-add (length t) ∙ ap length q ∙ length-take-le (n - 2) (drop 2 s) there in
-      rw (← e, ← q) (λ i. buffer (n - 2) ((p ∙ ap (λ (k : ℕ). t ++ drop k (replicate capacity 0)) size) i))
+      rw (← e, ← q) (p ∙ λ i. t ++ drop (size i) (zeros i))
+
+  -- what was read beside its buffer: a new one where it is refused, else that room with the size
+  pub unmarshal-refused : {why : List ℕ} {b : Buffer} → refuses why ≡ prefix capacity s → b ≡ new capacity
+      → (refuses why ≡ prefix capacity s) × (b ≡ after (new capacity) (unmarshalled capacity s))
+  unmarshal-refused e p = (e, p ∙ ap (after (new capacity)) (read-refused e))
+
+  pub unmarshal-done : (n : ℕ) (old room : List ℕ) → gives n ≡ prefix capacity s → room ≡ roomAfter old (unmarshalled capacity s)
+      → (gives n ≡ prefix capacity s) × (buffer (n - 2) room ≡ after (new capacity) (unmarshalled capacity s))
+  unfolding unmarshalled
+  unmarshal-done n old room e p = (e, rw (← e) (λ i. buffer (n - 2) ((rw (← e) at p) i)))

@@ -123,15 +123,15 @@ impl TpmBuffer1024 {
         ensures { λ r. ⌜ saidCount (r .answer) ≡ prefix 1024 (now (s .entry)) ⌝ }
         ensures { λ r. ⌜ of1024 (r .buffer) ≡ after (new 1024) (unmarshalled 1024 (now (s .entry))) ⌝ }
     {
-        let read = view::validate_prefix(1024, s);
-        match read {
+        let taken = view::validate_prefix(1024, s);
+        match taken {
             Count::Refused(e) => Unmarshalled1024 {
                 answer: Count::Refused(e),
                 buffer: Self::new(),
             },
             Count::Is(n) => {
                 let mut data = [0; 1024];
-                room::put(&mut data, 0, &s[2..n]);
+                room::fill(&mut data, s, n);
                 Unmarshalled1024 {
                     answer: Count::Is(n),
                     buffer: TpmBuffer1024 {

@@ -123,15 +123,15 @@ impl TpmBuffer64 {
         ensures { λ r. ⌜ saidCount (r .answer) ≡ prefix 64 (now (s .entry)) ⌝ }
         ensures { λ r. ⌜ of64 (r .buffer) ≡ after (new 64) (unmarshalled 64 (now (s .entry))) ⌝ }
     {
-        let read = view::validate_prefix(64, s);
-        match read {
+        let taken = view::validate_prefix(64, s);
+        match taken {
             Count::Refused(e) => Unmarshalled64 {
                 answer: Count::Refused(e),
                 buffer: Self::new(),
             },
             Count::Is(n) => {
                 let mut data = [0; 64];
-                room::put(&mut data, 0, &s[2..n]);
+                room::fill(&mut data, s, n);
                 Unmarshalled64 {
                     answer: Count::Is(n),
                     buffer: TpmBuffer64 {

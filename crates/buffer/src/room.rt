@@ -2,10 +2,11 @@
 ghost use mathlib.Core.Path.{_≡_};
 ghost use mathlib.Core.List.{_++_};
 ghost use Prim.Native.Nat.{_+_, _≤_};
-ghost use lib.ListN.{length, take, drop};
+ghost use lib.ListN.{length, take, drop, replicate};
 ghost use Rattle.base.specs.Answer.{saidCount, saidFlag};
-ghost use Rattle.base.specs.Said.{after};
-ghost use Rattle.buffer.specs.Fixed.{buffer, copied, count, equal, extended, grown, marshalled, roomAfter, sizeSaid, wireLength};
+ghost use Rattle.base.specs.Said.{after, gives};
+ghost use Rattle.buffer.specs.Fixed.{buffer, copied, count, equal, extended, grown, marshalled, roomAfter, sizeSaid, unmarshalled, wireLength};
+ghost use Rattle.buffer.specs.View.{prefix};
 use base::answer::Count;
 use base::answer::Flag;
 use base::error::TpmError;
@@ -80,6 +81,15 @@ pub(crate) fn extend(size: usize, data: &mut [u8], given: &[u8]) -> Count
         put(data, size, given);
     }
     grown
+}
+
+// Puts the data of the TPM2B at the start of s, which takes n bytes, to the start of room that is zeros.
+pub(crate) fn fill(data: &mut [u8], s: &[u8], n: usize)
+    requires { ⌜ now «data» ≡ replicate (length (now «data»)) 0 ⌝ }
+    requires { ⌜ gives n ≡ prefix (length (now «data»)) (now s) ⌝ }
+    ensures { λ _. ⌜ now («data» .exit) ≡ roomAfter (now («data» .entry)) (unmarshalled (length (now («data» .entry))) (now (s .entry))) ⌝ }
+{
+    put(data, 0, &s[2..n]);
 }
 
 // Copies the bytes held to the start of lent room.

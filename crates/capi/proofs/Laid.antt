@@ -1,14 +1,15 @@
 -- From a buffer beside its answer to what is reported and laid down, at every capacity.
 -- Assumes nothing.
 use mathlib.Core.Path.{_≡_, refl, sym, _∙_, ap, subst}
-use mathlib.Core.List.{List}
+use mathlib.Core.List.{List, [], _∷_}
 use Prim.Native.Nat.{ℕ, _-_}
 use Rattle.base.specs.Said.{Said, gives, refuses, done, after}
 use Rattle.buffer.specs.Fixed.{Buffer, new, roomAfter, unmarshalled}
 use Rattle.buffer.specs.View.{prefix}
-use Rattle.buffer.proofs.Rooms.{read-done}
-use Rattle.capi.specs.Buffer.{laid, sizeAlone}
-use Rattle.capi.specs.Out.{Reports}
+use Rattle.buffer.proofs.Rooms.{read-done, read-refused}
+use Rattle.capi.specs.Buffer.{laid, sizeAlone, sizeAndWire}
+use Rattle.capi.specs.Out.{Reports, first, fields, storedOver}
+use Rattle.capi.proofs.Reported.{answered, refused}
 
 laid-said : (b : Buffer) (said : Said Buffer) → laid (done said) (after b said) ≡ said
 laid-said b (gives c) = refl
@@ -28,12 +29,17 @@ module _ (rest : List ℕ) where
       → answer ≡ done (f b) → c ≡ after b (f b) → Laid rest old later room r (laid answer c) → Laid rest old later room r (f d)
   lays-of {old} {later} {room} {r} f b d e answer c p q t = subst (Laid rest old later room r) (ap f e) (lays b (f b) answer c p q t)
 
--- a buffer that was read of n bytes has n less its length field
-pub size-read : (capacity : ℕ) (s : List ℕ) (n : ℕ) (b : Buffer) → gives n ≡ prefix capacity s → b ≡ after (new capacity) (unmarshalled capacity s) → b .size ≡ n - 2
-size-read capacity s n b e p = ap (λ (c : Buffer). c .size) (p ∙ ap (after (new capacity)) (sym (read-done capacity s e)))
+-- what is reported of a TPM2B at the start of s, and what the lent room is later
+module _ (capacity : ℕ) (s old rest : List ℕ) where
+  pub unread : (why : List ℕ) (r : ℕ) (later : List ℕ) → refuses why ≡ prefix capacity s → (r ≡ first why) × (later ≡ storedOver (fields why) old)
+      → Reports sizeAndWire (prefix capacity s) old later r × (rest ≡ roomAfter rest (unmarshalled capacity s))
+  unread why r later e p = (refused sizeAndWire (prefix capacity s) old why r later e p, ap (roomAfter rest) (read-refused capacity s e))
 
-pub room-read : (capacity : ℕ) (s : List ℕ) (n : ℕ) (b : Buffer) (old : List ℕ) → gives n ≡ prefix capacity s → b ≡ after (new capacity) (unmarshalled capacity s)
-    → b .room ≡ roomAfter old (unmarshalled capacity s)
-room-read capacity s n b old e p =
-    let read = read-done capacity s e in
-    ap (λ (c : Buffer). c .room) (p ∙ ap (after (new capacity)) (sym read)) ∙ ap (roomAfter old) read
+  -- a buffer that was read of n bytes has n less its length field
+  pub read-in : (n : ℕ) (b : Buffer) → gives n ≡ prefix capacity s → b ≡ after (new capacity) (unmarshalled capacity s)
+      → Reports sizeAndWire (prefix capacity s) old (storedOver (b .size ∷ n ∷ []) old) 0 × (b .room ≡ roomAfter rest (unmarshalled capacity s))
+  read-in n b e p =
+      let read = read-done capacity s e in
+      let is = p ∙ ap (after (new capacity)) (sym read) in
+      let size : b .size ≡ n - 2 = ap (λ (c : Buffer). c .size) is in
+      (rw size (answered sizeAndWire (prefix capacity s) old n e), ap (λ (c : Buffer). c .room) is ∙ ap (roomAfter rest) read)

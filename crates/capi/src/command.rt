@@ -64,7 +64,7 @@ pub extern "C" fn skein_command_validate(s: &[u8], out: &mut Numbers) -> u32
 pub extern "C" fn skein_command_cc(s: &[u8], out: &mut Numbers) -> u32
     ensures { λ r. ⌜ Reports one (readCc commandCodes (now (s .entry))) (now (out .entry)) (now (out .exit)) r ⌝ }
 {
-    out::number32(frame::command::cc(s), out)
+    out::command_code(frame::command::cc(s), out)
 }
 
 #[no_mangle]

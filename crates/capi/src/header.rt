@@ -15,7 +15,7 @@ use base::code::TpmSt;
 pub extern "C" fn skein_frame_tag(s: &[u8], out: &mut Numbers) -> u32
     ensures { λ r. ⌜ Reports one (readTag (now (s .entry))) (now (out .entry)) (now (out .exit)) r ⌝ }
 {
-    out::number16(frame::header::tag(s), out)
+    out::tag(frame::header::tag(s), out)
 }
 
 #[no_mangle]

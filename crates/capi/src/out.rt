@@ -2,15 +2,18 @@
 ghost use mathlib.Core.Path.{_≡_};
 ghost use mathlib.Core.List.{[], _∷_};
 ghost use Rattle.base.specs.Error.{numbered};
-ghost use Rattle.base.specs.Answer.{saidCount, saidFlag, saidNumber16, saidNumber32, saidOutcome, saidRange};
+ghost use Rattle.base.specs.Answer.{saidCommandCode, saidCount, saidFlag, saidNumber16, saidNumber32, saidOutcome, saidRange, saidResponseCode, saidTag};
 ghost use Rattle.capi.specs.Frame.{partAndTail};
 ghost use Rattle.capi.specs.Out.{Reports, ends, fields, first, none, one, storedOver, truth};
+use base::answer::CommandCode;
 use base::answer::Count;
 use base::answer::Flag;
 use base::answer::Number16;
 use base::answer::Number32;
 use base::answer::Outcome;
 use base::answer::Range;
+use base::answer::ResponseCode;
+use base::answer::Tag;
 use base::error::TpmError;
 
 // The lent array that takes an answer's numbers or a refusal's fields.
@@ -124,6 +127,43 @@ pub(crate) fn flag(a: Flag, out: &mut Numbers) -> u32
             0
         }
         Flag::Refused(e) => refuse(e, out),
+    }
+}
+
+// A tag and the two codes go out by their numbers.
+pub(crate) fn tag(a: Tag, out: &mut Numbers) -> u32
+    ensures { λ r. ⌜ Reports one (saidTag a) (now (out .entry)) (now (out .exit)) r ⌝ }
+{
+    match a {
+        Tag::Is(n) => {
+            out[0] = n.0 as u64;
+            0
+        }
+        Tag::Refused(e) => refuse(e, out),
+    }
+}
+
+pub(crate) fn command_code(a: CommandCode, out: &mut Numbers) -> u32
+    ensures { λ r. ⌜ Reports one (saidCommandCode a) (now (out .entry)) (now (out .exit)) r ⌝ }
+{
+    match a {
+        CommandCode::Is(n) => {
+            out[0] = n.0 as u64;
+            0
+        }
+        CommandCode::Refused(e) => refuse(e, out),
+    }
+}
+
+pub(crate) fn response_code(a: ResponseCode, out: &mut Numbers) -> u32
+    ensures { λ r. ⌜ Reports one (saidResponseCode a) (now (out .entry)) (now (out .exit)) r ⌝ }
+{
+    match a {
+        ResponseCode::Is(n) => {
+            out[0] = n.0 as u64;
+            0
+        }
+        ResponseCode::Refused(e) => refuse(e, out),
     }
 }
 

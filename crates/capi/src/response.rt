@@ -44,7 +44,7 @@ pub extern "C" fn skein_response_validate(cc: u32, s: &[u8], out: &mut Numbers) 
 pub extern "C" fn skein_response_rc(s: &[u8], out: &mut Numbers) -> u32
     ensures { λ r. ⌜ Reports one (readRc (now (s .entry))) (now (out .entry)) (now (out .exit)) r ⌝ }
 {
-    out::number32(frame::response::rc(s), out)
+    out::response_code(frame::response::rc(s), out)
 }
 
 #[no_mangle]

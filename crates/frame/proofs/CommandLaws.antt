@@ -4,7 +4,6 @@
 use mathlib.Core.Path.{_≡_, refl, sym, _∙_, ap, subst}
 use mathlib.Core.Bool.{true, false}
 use mathlib.Core.List.{List, []}
-use mathlib.Core.Logic.{_↔_}
 use Prim.Native.Nat.{ℕ, _+_, _-_, _*_, _≤_, _<_}
 use native.Mathlib.Nat.{le-refl}
 use native.Mathlib.Omega.{arith}
@@ -14,21 +13,26 @@ use lib.ListN.{length, take, drop}
 use lib.Seq.{length-take-le}
 use Rattle.base.specs.Bytes.{AreBytes}
 use Rattle.base.specs.Members.{isIn}
+use Rattle.base.specs.Parts.{heldAt}
 use Rattle.base.specs.Said.{gives}
 use Rattle.base.proofs.Bytes.{are-bytes-take, are-bytes-drop}
 use Rattle.base.proofs.Checks.{needs-gives, then-gives, gives-injective}
+use Rattle.base.proofs.Places.{At}
 use Rattle.table.specs.Table.{rowFor}
 use Rattle.table.specs.Tags.{tags}
 use Rattle.table.specs.declared.row.Row.{Row}
 use Rattle.frame.specs.declared.areas.Areas.{Areas}
+use Rattle.frame.specs.declared.command.Command.{Command}
 use Rattle.frame.specs.declared.session.Session.{Session}
+use Rattle.frame.specs.Answer.{commandOf, frameOf, commandByValue}
 use Rattle.frame.specs.Areas.{sizedArea}
-use Rattle.frame.specs.Command.{Division, commandHandles, commandAreas, judgeCommand, castCommand, readCommand}
+use Rattle.frame.specs.Command.{Division, commandHandles, commandAreas, judgeCommand, castCommand, readCommand, handlesRange, authRange, parametersRange}
 use Rattle.frame.specs.Header.{tagOf, sizeOf, codeOf, sessions, isOfTwo, readCc, frameWhole, readFrameTag}
-use Rattle.frame.specs.Layout.{Frame, WellFormed, CommandParts, layoutEntries, layoutBody, layoutFrame, layoutCommand}
-use Rattle.frame.specs.Parts.{entriesIn, commandParts}
-use Rattle.frame.specs.Walk.{walk}
-use Rattle.frame.proofs.Divides.{exactly, one-division, equal}
+use Rattle.frame.specs.Layout.{Frame, WholeEntries, WellFormed, CommandParts, layoutEntries, layoutBody, layoutFrame, layoutCommand}
+use Rattle.frame.specs.Parts.{ranged, entriesIn, entriesOf, told, commandParts}
+use Rattle.frame.specs.Walk.{walk, byValue}
+use Rattle.frame.proofs.Divides.{Divides, divides-by-value}
+use Rattle.frame.proofs.Divisions.{entries-of}
 use Rattle.frame.proofs.FrameLaws.{
   code-fits,
   size-fits,
@@ -50,8 +54,8 @@ use Rattle.frame.proofs.FrameLaws.{
   frame-again,
   sized-complete,
 }
-use Rattle.frame.proofs.Standing.{between-at, behind-at, at-between, at-behind, at-within, at-inside, length-entries}
-use Rattle.frame.proofs.WalkLaws.{walk-sound, walk-complete, walk-within, walk-end}
+use Rattle.frame.proofs.Standing.{between-at, at-between, at-within, at-inside, length-entries}
+use Rattle.frame.proofs.WalkLaws.{walk-sound, walk-few, walk-complete, walk-within, walk-end}
 
 module _ (rows : List Row) (known : List ℕ) where
   -- the steps of a reading that passed
@@ -98,11 +102,34 @@ module _ (rows : List Row) (known : List ℕ) where
         walked = walked .1;
       })
 
+  handles-pass : (s : List ℕ) (d : Division) (t : Steps s d) → commandHandles rows known s ≡ gives (10 + 4 * t .row .handles)
+  unfolding commandHandles readCc
+  handles-pass s d t = rw (le-leb 10 (length s) (t .ten), t .code-known, t .has-row) (handles-complete s (t .row .handles) (t .room))
+
+  areas-pass : (s : List ℕ) (d : Division) → Steps s d → commandAreas rows known s ≡ gives (d .areas)
+  unfolding commandAreas
+  areas-pass s d t = rw (handles-pass s d t, t .tag-known) (t .sized)
+
   steps-pass : (s : List ℕ) (d : Division) → Steps s d → readCommand rows known s ≡ gives d
   unfolding readCommand castCommand judgeCommand commandAreas commandHandles readCc
   steps-pass s d t =
       rw (whole-complete s (t .ten) (t .size-is), tag-complete s (t .ten) (t .tag-two), le-leb 10 (length s) (t .ten))
       (rw (t .code-known, t .has-row, handles-complete s (t .row .handles) (t .room), t .tag-known, t .sized, t .walked) refl)
+
+  -- ---- by value
+
+  -- the parts that a division tells, by the areas that are given back
+  abbrev parts : List ℕ → Division → Frame
+  parts s d = told s (tagOf s) (codeOf s) ((frameOf commandOf s d) .handles) ((frameOf commandOf s d) .parameters) (d .entries)
+
+  all-entries : (s : List ℕ) (d : Division) → Steps s d → entriesOf (byValue (d .entries)) ≡ d .entries
+  all-entries s d t = entries-of (d .entries) (walk-few 3 4 (take (d .areas .to) s) (d .areas .from) (t .walked))
+
+  parts-told : (s : List ℕ) (d : Division) → readCommand rows known s ≡ gives d → commandParts s (frameOf commandOf s d) ≡ parts s d
+  unfolding commandParts
+  parts-told s d e =
+      let c : Command = frameOf commandOf s d in
+      ap (told s (tagOf s) (codeOf s) (c .handles) (c .parameters)) (all-entries s d (steps-taken s d e))
 
   -- ---- a command that passes is the layout of the parts read, and they are well formed
 
@@ -117,27 +144,44 @@ module _ (rows : List Row) (known : List ℕ) where
       let walked : gives (d .entries) ≡ gives [] = sym (t .walked) ∙ walk-end 3 4 (take to s) (d .areas .from) (omega arith) in
       ap (entriesIn s) (gives-injective walked)
 
+  module _ (s : List ℕ) (p : AreBytes s) (d : Division) (t : Steps s d) where
+    places-order : (d .areas .handles ≡ 10 + 4 * t .row .handles)
+        × (10 + 4 * t .row .handles ≤ d .areas .from) × (d .areas .from ≤ d .areas .to) × (d .areas .to ≤ length s)
+    places-order =
+        let h : ℕ = 10 + 4 * t .row .handles in
+        sized-order (eqb (tagOf s) sessions) h h s (le-refl h) (t .room) (t .sized)
+
+    -- the entries stand in the sized bytes and fill them
+    entries-stand : At s (d .areas .from) (layoutEntries 4 (entriesIn s (d .entries)))
+        × (d .areas .from + length (layoutEntries 4 (entriesIn s (d .entries))) ≡ d .areas .to)
+        × WholeEntries 4 (entriesIn s (d .entries))
+    entries-stand =
+        let from : ℕ = d .areas .from in
+        let to : ℕ = d .areas .to in
+        let order = places-order in
+        let short : length (take to s) ≡ to = length-take-le to s (order .3) in
+        let inside : from ≤ length (take to s) = rw short (order .2) in
+        let within : entriesIn (take to s) (d .entries) ≡ entriesIn s (d .entries) = walk-within 3 4 to s from inside (t .walked) in
+        let walked = rw within at (walk-sound 3 4 (take to s) from (are-bytes-take to s p) inside (t .walked)) in
+        (at-within to s (walked .0), walked .1 ∙ short, walked .2)
+
   pub command-sound : (s : List ℕ) → AreBytes s → (d : Division) → readCommand rows known s ≡ gives d
-      → CommandParts rows (commandParts s d) × (layoutCommand (commandParts s d) ≡ s)
-  unfolding commandParts layoutCommand
+      → CommandParts rows (parts s d) × (layoutCommand (parts s d) ≡ s)
+  unfolding layoutCommand
   command-sound s p d e =
       let t = steps-taken s d e in
       let h : ℕ = 10 + 4 * t .row .handles in
-      let from : ℕ = d .areas .from in
       let to : ℕ = d .areas .to in
-      let order = sized-order (eqb (tagOf s) sessions) h h s (le-refl h) (t .room) (t .sized) in
-      let short : length (take to s) ≡ to = length-take-le to s (order .3) in
-      let inside : from ≤ length (take to s) = rw short (order .2) in
-      let within : entriesIn (take to s) (d .entries) ≡ entriesIn s (d .entries) = walk-within 3 4 to s from inside (t .walked) in
-      let walked = rw within at (walk-sound 3 4 (take to s) from (are-bytes-take to s p) inside (t .walked)) in
+      let order = places-order s p d t in
+      let stand = entries-stand s p d t in
       let handles = at-between s 10 (d .areas .handles) (omega arith) (omega arith) in
-      let rest = at-behind s to (order .3) in
-      let again : layoutCommand (commandParts s d) ≡ s =
+      let rest = at-between s to (length s) (order .3) (le-refl (length s)) in
+      let again : layoutCommand (parts s d) ≡ s =
       frame-again h h s p (t .size-is) (t .sized) (record {
         handles-at = handles .0;
         handles-end = handles .1;
-        sized-at = at-within to s (walked .0);
-        sized-end = walked .1 ∙ short;
+        sized-at = stand .0;
+        sized-end = stand .1;
         rest-at = rest .0;
         rest-end = rest .1;
       }) in (
@@ -149,15 +193,43 @@ module _ (rows : List Row) (known : List ℕ) where
             code-fits = code-fits s p (t .ten);
             handle-bytes = are-bytes-take (d .areas .handles - 10) (drop 10 s) (are-bytes-drop 10 s p);
             handle-count = omega (arith, handles .1);
-            whole-entries = walked .2;
-            three-entries = rw length-entries (walked .3);
+            whole-entries = stand .2;
+            three-entries = rw length-entries (walk-few 3 4 (take to s) (d .areas .from) (t .walked));
             plain-entries = plain-walk s d t;
-            parameter-bytes = are-bytes-drop to s p;
+            parameter-bytes = are-bytes-take (length s - to) (drop to s) (are-bytes-drop to s p);
           };
           size-fits = rw again (size-fits s p (t .ten) (t .size-is));
         },
         again,
       )
+
+  -- what is given back as the authorization area is the layout of the entries
+  pub command-auth : (s : List ℕ) → AreBytes s → (c : Command) → commandByValue s (readCommand rows known s) ≡ gives c
+      → heldAt (c .auth) s ≡ layoutEntries 4 (commandParts s c .entries)
+  unfolding commandParts
+  command-auth s p c e =
+      let read = then-gives (readCommand rows known s) _ e in
+      let d : Division = read .0 in
+      let t = steps-taken s d (read .1) in
+      let stand = entries-stand s p d t in
+      subst (λ (c : Command). heldAt (c .auth) s ≡ layoutEntries 4 (commandParts s c .entries)) (gives-injective (read .2))
+      (between-at (d .areas .to) (stand .0) (stand .1) ∙ ap (λ (es : List Session). layoutEntries 4 (entriesIn s es)) (sym (all-entries s d t)))
+
+  -- the three reads of one area give the areas of a passing command
+  pub command-ranges : (s : List ℕ) (c : Command) → commandByValue s (readCommand rows known s) ≡ gives c
+      → (handlesRange rows known s ≡ gives (ranged (c .handles)))
+      × (authRange rows known s ≡ gives (ranged (c .auth)))
+      × (parametersRange rows known s ≡ gives (ranged (c .parameters)))
+  unfolding handlesRange authRange parametersRange
+  command-ranges s c e =
+      let read = then-gives (readCommand rows known s) _ e in
+      let d : Division = read .0 in
+      let t = steps-taken s d (read .1) in
+      let handles : commandHandles rows known s ≡ gives (10 + 4 * t .row .handles) = handles-pass s d t in
+      let areas : commandAreas rows known s ≡ gives (d .areas) = areas-pass s d t in
+      let same : d .areas .handles ≡ 10 + 4 * t .row .handles =
+      sized-order (eqb (tagOf s) sessions) (10 + 4 * t .row .handles) (10 + 4 * t .row .handles) s (omega arith) (t .room) (t .sized) .0 in
+      rw (← gives-injective (read .2), handles, areas, same) (refl, refl, refl)
 
   -- ---- the layout of well-formed parts passes, and they are the parts read
 
@@ -170,8 +242,7 @@ module _ (rows : List Row) (known : List ℕ) where
         -- from where the parts stand to the division
         with-entries : (ds : List Session) → walk 3 4 (take (areas .to) s) (areas .from) ≡ gives ds
             → areas .from ≤ length (take (areas .to) s) → entriesIn (take (areas .to) s) ds ≡ f .entries
-            → (d : Division) × (readCommand rows known s ≡ gives d) × (commandParts s d ≡ f)
-        unfolding commandParts
+            → (d : Division) × (readCommand rows known s ≡ gives d) × (parts s d ≡ f)
         with-entries ds walked inside same =
             let within : entriesIn (take (areas .to) s) ds ≡ entriesIn s ds = walk-within 3 4 (areas .to) s (areas .from) inside walked in
             let d : Division = record { areas = areas; entries = ds } in
@@ -195,11 +266,11 @@ module _ (rows : List Row) (known : List ℕ) where
                 code = code i;
                 handles = between-at (areas .handles) (held .handles-at) (held .handles-end) i;
                 entries = (sym within ∙ same) i;
-                parameters = behind-at (held .rest-at) (held .rest-end) i;
+                parameters = between-at (length s) (held .rest-at) (held .rest-end) i;
               }),
             )
 
-        with-areas : (d : Division) × (readCommand rows known s ≡ gives d) × (commandParts s d ≡ f)
+        with-areas : (d : Division) × (readCommand rows known s ≡ gives d) × (parts s d ≡ f)
         with-areas =
             let from : ℕ = areas .from in
             let to : ℕ = areas .to in
@@ -210,7 +281,7 @@ module _ (rows : List Row) (known : List ℕ) where
             with-entries (walked .0) (walked .1) (omega arith) (walked .2)
 
     pub command-complete : (f : Frame) → CommandParts rows f
-        → (d : Division) × (readCommand rows known (layoutCommand f) ≡ gives d) × (commandParts (layoutCommand f) d ≡ f)
+        → (d : Division) × (readCommand rows known (layoutCommand f) ≡ gives d) × (parts (layoutCommand f) d ≡ f)
     unfolding layoutCommand
     command-complete f c =
         let w = c .well-formed in
@@ -226,18 +297,9 @@ module _ (rows : List Row) (known : List ℕ) where
         let sized = sized-complete (eqb (f .tag) sessions) h h s (f .handles) entries (f .parameters) small count stop (framed .body-at) (framed .body-long) in
         with-areas f (c .row) (c .has-row) w s framed (sized .0) (sized .2) (sized .1)
 
-    -- ---- and so
+    -- ---- and so of what is given back by value
 
-    -- exactly the layouts of well-formed parts pass
-    pub command-exactly : (s : List ℕ) → AreBytes s
-        → ((d : Division) × (readCommand rows known s ≡ gives d)) ↔ ((f : Frame) × CommandParts rows f × (layoutCommand f ≡ s))
-    command-exactly = exactly (readCommand rows known) commandParts layoutCommand (CommandParts rows) command-sound command-complete
-
-    -- no command divides two ways
-    pub command-one-division : (f g : Frame) → CommandParts rows f → CommandParts rows g → layoutCommand f ≡ layoutCommand g → f ≡ g
-    command-one-division = one-division (readCommand rows known) commandParts layoutCommand (CommandParts rows) command-sound command-complete
-
-    -- two commands that pass have equal parts exactly where they have equal bytes
-    pub command-equal : (s t : List ℕ) → AreBytes s → AreBytes t → (d e : Division)
-        → readCommand rows known s ≡ gives d → readCommand rows known t ≡ gives e → (commandParts s d ≡ commandParts t e) ↔ (s ≡ t)
-    command-equal = equal (readCommand rows known) commandParts layoutCommand (CommandParts rows) command-sound command-complete
+    pub command-divides : Divides (λ s. commandByValue s (readCommand rows known s)) commandParts layoutCommand (CommandParts rows)
+    command-divides =
+        divides-by-value (readCommand rows known) parts layoutCommand (CommandParts rows) (frameOf commandOf) commandParts
+        parts-told command-sound command-complete

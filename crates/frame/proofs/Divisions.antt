@@ -10,7 +10,6 @@ use lib.Dec.{eqb, leb}
 use lib.ListN.{length, take}
 use Rattle.base.specs.Field.{readField}
 use Rattle.base.specs.Members.{isIn}
-use Rattle.base.specs.Parts.{span}
 use Rattle.base.specs.Said.{Said, gives, refuses, then}
 use Rattle.base.proofs.Checks.{passes, fails, goes-on, stops, needs-gives, then-gives, gives-injective, refuses-injective, gives≢refuses}
 use Rattle.table.specs.Table.{rowFor}
@@ -19,10 +18,11 @@ use Rattle.table.specs.declared.row.Row.{Row}
 use Rattle.frame.specs.declared.areas.Areas.{Areas}
 use Rattle.frame.specs.declared.session.Session.{Session}
 use Rattle.frame.specs.declared.session.Entries.{Entries}
-use Rattle.frame.specs.Answer.{entriesByValue, commandByValue, responseByValue}
+use Rattle.frame.specs.Answer.{entriesByValue, frameOf}
 use Rattle.frame.specs.Areas.{handleArea, sizedArea}
 use Rattle.frame.specs.Command.{Division, commandHandles, commandAreas, judgeCommand, castCommand}
 use Rattle.frame.specs.Header.{tagOf, codeOf, sessions, plain, readCc, frameWhole, readFrameTag}
+use Rattle.frame.specs.Parts.{entriesOf}
 use Rattle.frame.specs.Response.{castResponse, errorAreas, successAreas, responseAreas}
 use Rattle.frame.specs.Walk.{walk, byValue}
 use Rattle.frame.proofs.FrameLaws.{sized-order, two-tags}
@@ -206,43 +206,15 @@ module _ (areas : Said Areas) (entries : Areas → Said (List Session)) where
         by (refuses why) r = absurd (gives≢refuses r)
 
 -- what is given back by value of a division that was read
-module _ (s : List ℕ) (read : Said Division) {a : Areas} {ds : List Session}
-    (e : gives (record { areas = a; entries = ds }) ≡ read) {tag code : ℕ} {es : Entries}
-    (tag-is : tag ≡ tagOf s) (code-is : code ≡ codeOf s) (es-are : es ≡ byValue ds) where
-  pub command-by-value : gives (record {
-    tag = record { 0 = tag };
-    cc = record { 0 = code };
-    handles = span 10 (a .handles);
-    auth = span (a .from) (a .to);
-    parameters = span (a .to) (length s);
-    entries = es;
-  }) ≡ commandByValue s read
-  command-by-value =
-      (λ i. gives (record {
-        tag = record { 0 = tag-is i };
-        cc = record { 0 = code-is i };
-        handles = span 10 (a .handles);
-        auth = span (a .from) (a .to);
-        parameters = span (a .to) (length s);
-        entries = es-are i;
-      }))
-      ∙ goes-on read _ e
+pub by-value : {B : Type 0} (of : ℕ → ℕ → ℕ → Areas → Entries → B) (s : List ℕ) (read : Said Division) {a : Areas} {ds : List Session}
+    → gives (record { areas = a; entries = ds }) ≡ read → {tag code : ℕ} {es : Entries} → tag ≡ tagOf s → code ≡ codeOf s → es ≡ byValue ds
+    → gives (of tag code (length s) a es) ≡ then read (λ d. gives (frameOf of s d))
+by-value of s read {a} e tag-is code-is es-are = (λ i. gives (of (tag-is i) (code-is i) (length s) a (es-are i))) ∙ goes-on read _ e
 
-  pub response-by-value : gives (record {
-    tag = record { 0 = tag };
-    rc = record { 0 = code };
-    handles = span 10 (a .handles);
-    parameters = span (a .from) (a .to);
-    auth = span (a .to) (length s);
-    entries = es;
-  }) ≡ responseByValue s read
-  response-by-value =
-      (λ i. gives (record {
-        tag = record { 0 = tag-is i };
-        rc = record { 0 = code-is i };
-        handles = span 10 (a .handles);
-        parameters = span (a .from) (a .to);
-        auth = span (a .to) (length s);
-        entries = es-are i;
-      }))
-      ∙ goes-on read _ e
+-- as many entries as are counted are all of at most three
+pub entries-of : (es : List Session) → length es ≤ 3 → entriesOf (byValue es) ≡ es
+entries-of [] few = refl
+entries-of (a ∷ []) few = refl
+entries-of (a ∷ b ∷ []) few = refl
+entries-of (a ∷ b ∷ c ∷ []) few = refl
+entries-of (a ∷ b ∷ c ∷ d ∷ es) few = absurd (omega arith)

@@ -1,14 +1,13 @@
 -- The cases of what is read and set in a header, and of the parts that a range tells, each from the tests that lead to it.
 -- Assumes nothing.
-use mathlib.Core.Path.{_≡_, refl, sym, _∙_, ap}
-use mathlib.Core.Bool.{Bool, true, false, _&&_, cond, and-eq-true-iff}
+use mathlib.Core.Path.{_≡_, sym, _∙_, ap}
+use mathlib.Core.Bool.{true, false}
 use mathlib.Core.List.{List, [], _∷_}
 use Prim.Native.Nat.{ℕ, _-_, _≤_, _<_}
 use native.Mathlib.Omega.{arith}
 use borrow.Author.Tests.{le-leb, lt-leb, leb-true}
 use lib.Dec.{leb}
-use lib.ListN.{length, take, drop}
-use Rattle.base.specs.Answer.{Part}
+use lib.ListN.{length}
 use Rattle.base.specs.Bytes.{number}
 use Rattle.base.specs.Field.{writeField}
 use Rattle.base.specs.Members.{isIn}
@@ -81,6 +80,11 @@ module _ (s : List ℕ) where
     unfolding readRc
     rc-refused e h other = rw (← e) (fails (given (readCode n)) _ (gives n) other ∙ has-header _ h)
 
+    -- success reads
+    pub success-read : n ≡ codeOf s → 10 ≤ length s → n ≡ 0 → gives n ≡ readRc s
+    unfolding readCode readFmt0 isKnown knownCodes
+    success-read e h success = rc-read e h (ap (λ (code : ℕ). given (readCode code)) success)
+
     -- the envelope
     pub size-small : n ≡ sizeOf s → 10 ≤ length s → n < 10 → refuses (1 ∷ 2 ∷ 10 ∷ n ∷ []) ≡ framePrefix s
     unfolding framePrefix
@@ -104,11 +108,6 @@ module _ (s : List ℕ) where
       let two = needs-gives (isOfTwo (tagOf s)) _ _ (there .1) in
       let is : tagOf s ≡ n = gives-injective (two .1) in
       (sym is, ap isOfTwo (sym is) ∙ two .0)
-
-  -- success reads
-  pub success-read : 0 ≡ codeOf s → 10 ≤ length s → gives 0 ≡ readRc s
-  unfolding readCode readFmt0 isKnown knownCodes
-  success-read e h = rc-read 0 e h refl
 
   -- a prefix that was read has a header and stands within the bytes
   pub prefix-fits : {n : ℕ} → gives n ≡ framePrefix s → (10 ≤ length s) × (10 ≤ n) × (n ≤ length s)

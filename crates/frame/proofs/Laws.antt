@@ -1,72 +1,114 @@
--- Demand 3 at the port's own table: a frame passes the full check exactly when it is the layout of well-formed parts; they are the
--- parts read, and laid out again they are the same bytes; no frame divides two ways; and two passing frames of one kind have equal parts exactly when they have equal bytes.
--- The laws themselves hold over any rows, and for commands over any list of known codes that has the rows' codes (CommandLaws,
--- ResponseLaws).
+-- Demand 3 at the port's own table, of what is given back by value and of what callers are answered. The laws of what is read hold
+-- over any rows, and for commands over any list of known codes that has the rows' codes (CommandLaws, ResponseLaws).
 -- Assumes nothing.
-use mathlib.Core.Path.{_≡_}
+use mathlib.Core.Path.{_≡_, refl, sym, _∙_, ap}
 use mathlib.Core.Bool.{true}
 use mathlib.Core.List.{List}
 use mathlib.Core.Logic.{_↔_}
 use Prim.Native.Nat.{ℕ}
+use borrow.Fn.Kinds.{PK, RK, Out, Dens, resT, endedOf}
+use contract.Lifetimes.{Lfts}
+use denote.Ref.{now}
+use denote.Triple.Clauses.{Lasts, atExit}
+use Rattle.base.specs.declared.answer.Outcome.the-variants as outcome
 use Rattle.base.specs.Bytes.{AreBytes}
+use Rattle.base.specs.Parts.{heldAt}
 use Rattle.base.specs.Members.{isIn}
 use Rattle.base.specs.Said.{gives}
 use Rattle.table.specs.Dispatch.{dispatch, commandCodes}
 use Rattle.table.specs.Table.{rowFor}
 use Rattle.table.specs.declared.row.Row.{Row}
 use Rattle.table.proofs.Table.{row-known}
-use Rattle.frame.specs.Command.{Division, readCommand}
-use Rattle.frame.specs.Layout.{Frame, CommandParts, ResponseParts, layoutCommand, layoutResponse}
-use Rattle.frame.specs.Parts.{commandParts, responseParts}
+use Rattle.frame.specs.declared.command.Command.{Command}
+use Rattle.frame.specs.declared.command.CommandRead.the-variants as command
+use Rattle.frame.specs.declared.response.Response.{Response}
+use Rattle.frame.specs.declared.response.ResponseRead.the-variants as response
+use Rattle.frame.specs.Answer.{commandOf, responseOf, frameOf, commandByValue, responseByValue, saidCommand, saidResponse}
+use Rattle.frame.specs.Command.{readCommand, handlesRange, authRange, parametersRange}
+use Rattle.frame.specs.Layout.{Frame, CommandParts, ResponseParts, layoutEntries, layoutCommand, layoutResponse}
+use Rattle.frame.specs.Parts.{ranged, commandParts, responseParts}
 use Rattle.frame.specs.Response.{readResponse}
 use Rattle.frame.proofs.CommandLaws as over
 use Rattle.frame.proofs.ResponseLaws as over-one
+use Rattle.frame.proofs.Divides.{Divides, Tells, tells, done-exactly, done-valued}
 use Rattle.frame.proofs.FrameLaws.{two-tags}
+use Rattle.frame.proofs.Single.{saidCommand-injective, saidResponse-injective}
+use Rattle.frame.proofs.command.validate.Kinds as command-validate-kinds
+use Rattle.frame.proofs.command.validate.Reads as command-validate-reads
+use Rattle.frame.proofs.command.parts.Kinds as command-parts-kinds
+use Rattle.frame.proofs.command.parts.Reads as command-parts-reads
+use Rattle.frame.proofs.response.validate.Kinds as response-validate-kinds
+use Rattle.frame.proofs.response.validate.Reads as response-validate-reads
+use Rattle.frame.proofs.response.parts.Kinds as response-parts-kinds
+use Rattle.frame.proofs.response.parts.Reads as response-parts-reads
 
 has-code : (code : ℕ) (r : Row) → rowFor dispatch code ≡ gives r → isIn code commandCodes ≡ true
 has-code code r found = row-known code found
 
--- ---- commands
+-- ---- what is read: it divides as the layout says, and the authorization area holds the entries
 
-pub command-exactly : (s : List ℕ) → AreBytes s
-    → ((d : Division) × (readCommand dispatch commandCodes s ≡ gives d)) ↔ ((f : Frame) × CommandParts dispatch f × (layoutCommand f ≡ s))
-command-exactly = over.command-exactly dispatch commandCodes has-code two-tags
+pub command-divides : Divides (λ s. commandByValue s (readCommand dispatch commandCodes s)) commandParts layoutCommand (CommandParts dispatch)
+command-divides = over.command-divides dispatch commandCodes has-code two-tags
 
-pub command-parts : (f : Frame) → CommandParts dispatch f
-    → (d : Division) × (readCommand dispatch commandCodes (layoutCommand f) ≡ gives d) × (commandParts (layoutCommand f) d ≡ f)
-command-parts = over.command-complete dispatch commandCodes has-code two-tags
+pub command-auth : (s : List ℕ) → AreBytes s → (c : Command) → commandByValue s (readCommand dispatch commandCodes s) ≡ gives c
+    → heldAt (c .auth) s ≡ layoutEntries 4 (commandParts s c .entries)
+command-auth = over.command-auth dispatch commandCodes
 
-pub command-again : (s : List ℕ) → AreBytes s → (d : Division) → readCommand dispatch commandCodes s ≡ gives d
-    → CommandParts dispatch (commandParts s d) × (layoutCommand (commandParts s d) ≡ s)
-command-again = over.command-sound dispatch commandCodes
+-- and the three reads of one area give the areas of a passing command
+pub command-ranges : (s : List ℕ) (c : Command) → commandByValue s (readCommand dispatch commandCodes s) ≡ gives c
+    → (handlesRange dispatch commandCodes s ≡ gives (ranged (c .handles)))
+    × (authRange dispatch commandCodes s ≡ gives (ranged (c .auth)))
+    × (parametersRange dispatch commandCodes s ≡ gives (ranged (c .parameters)))
+command-ranges = over.command-ranges dispatch commandCodes
 
-pub command-one-division : (f g : Frame) → CommandParts dispatch f → CommandParts dispatch g → layoutCommand f ≡ layoutCommand g → f ≡ g
-command-one-division = over.command-one-division dispatch commandCodes has-code two-tags
-
-pub command-equal : (s t : List ℕ) → AreBytes s → AreBytes t → (d e : Division)
-    → readCommand dispatch commandCodes s ≡ gives d → readCommand dispatch commandCodes t ≡ gives e
-    → (commandParts s d ≡ commandParts t e) ↔ (s ≡ t)
-command-equal = over.command-equal dispatch commandCodes has-code two-tags
-
--- ---- responses to the command of a code
-
+-- of responses to the command of a code
 module _ (cc : ℕ) where
-  pub response-exactly : (s : List ℕ) → AreBytes s
-      → ((d : Division) × (readResponse dispatch cc s ≡ gives d)) ↔ ((f : Frame) × ResponseParts dispatch cc f × (layoutResponse f ≡ s))
-  response-exactly = over-one.response-exactly dispatch cc
+  pub response-divides : Divides (λ s. responseByValue s (readResponse dispatch cc s)) responseParts layoutResponse (ResponseParts dispatch cc)
+  response-divides = over-one.response-divides dispatch cc
 
-  pub response-parts : (f : Frame) → ResponseParts dispatch cc f
-      → (d : Division) × (readResponse dispatch cc (layoutResponse f) ≡ gives d) × (responseParts (layoutResponse f) d ≡ f)
-  response-parts = over-one.response-complete dispatch cc
+  pub response-auth : (s : List ℕ) → AreBytes s → (r : Response) → responseByValue s (readResponse dispatch cc s) ≡ gives r
+      → heldAt (r .auth) s ≡ layoutEntries 0 (responseParts s r .entries)
+  response-auth = over-one.response-auth dispatch cc
 
-  pub response-again : (s : List ℕ) → AreBytes s → (d : Division) → readResponse dispatch cc s ≡ gives d
-      → ResponseParts dispatch cc (responseParts s d) × (layoutResponse (responseParts s d) ≡ s)
-  response-again = over-one.response-sound dispatch cc
+-- ---- what callers are answered: whatever arguments and result meet a function's contract, the claim holds of them
 
-  pub response-one-division : (f g : Frame) → ResponseParts dispatch cc f → ResponseParts dispatch cc g → layoutResponse f ≡ layoutResponse g → f ≡ g
-  response-one-division = over-one.response-one-division dispatch cc
+abbrev Promised : (n : ℕ) (ps : List (PK n)) (r : RK n) → Out n ps r → ((κs : Lfts n) → Dens κs ps → resT r κs .Denot → Type 0) → Type 0
+Promised n ps r Post Claim =
+    (κs : Lfts n) (a : Dens κs ps) (x : resT r κs .Denot) (v : Lasts (endedOf n ps r) κs a) →
+    Post κs a x (atExit (endedOf n ps r) κs a v) →
+    Claim κs a x
 
-  pub response-equal : (s t : List ℕ) → AreBytes s → AreBytes t → (d e : Division)
-      → readResponse dispatch cc s ≡ gives d → readResponse dispatch cc t ≡ gives e
-      → (responseParts s d ≡ responseParts t e) ↔ (s ≡ t)
-  response-equal = over-one.response-equal dispatch cc
+-- `validate` is done exactly when the bytes are the layout of well-formed parts
+pub command-validate : Promised 1 command-validate-kinds.ps command-validate-kinds.r command-validate-reads.Post
+    (λ κs a x. AreBytes (now (a .0)) → (x ≡ outcome.Done) ↔ ((f : Frame) × CommandParts dispatch f × (layoutCommand f ≡ now (a .0))))
+command-validate κs a x v met p =
+    let s : List ℕ = now (a .0) in
+    done-exactly command-divides s p x (met ∙ done-valued (frameOf commandOf s) (readCommand dispatch commandCodes s))
+
+pub response-validate : Promised 1 response-validate-kinds.ps response-validate-kinds.r response-validate-reads.Post
+    (λ κs a x. AreBytes (now (a .1 .0))
+    → (x ≡ outcome.Done) ↔ ((f : Frame) × ResponseParts dispatch (a .0 .0) f × (layoutResponse f ≡ now (a .1 .0))))
+response-validate κs a x v met p =
+    let s : List ℕ = now (a .1 .0) in
+    done-exactly (response-divides (a .0 .0)) s p x (met ∙ done-valued (frameOf responseOf s) (readResponse dispatch (a .0 .0) s))
+
+-- `parts` gives what tells these parts, and then the authorization area is the layout of the entries
+pub command-parts : Promised 1 command-parts-kinds.ps command-parts-kinds.r command-parts-reads.Post
+    (λ κs a x. AreBytes (now (a .0))
+    → Tells command.Is commandParts layoutCommand (CommandParts dispatch) (now (a .0)) x
+    × ((c : Command) → x ≡ command.Is c → heldAt (c .auth) (now (a .0)) ≡ layoutEntries 4 (commandParts (now (a .0)) c .entries)))
+command-parts κs a x v met p =
+    let s : List ℕ = now (a .0) in (
+      tells command-divides s p saidCommand command.Is (λ c. refl) saidCommand-injective x met,
+      (λ c is. command-auth s p c (sym met ∙ ap saidCommand is)),
+    )
+
+pub response-parts : Promised 1 response-parts-kinds.ps response-parts-kinds.r response-parts-reads.Post
+    (λ κs a x. AreBytes (now (a .1 .0))
+    → Tells response.Is responseParts layoutResponse (ResponseParts dispatch (a .0 .0)) (now (a .1 .0)) x
+    × ((r : Response) → x ≡ response.Is r → heldAt (r .auth) (now (a .1 .0)) ≡ layoutEntries 0 (responseParts (now (a .1 .0)) r .entries)))
+response-parts κs a x v met p =
+    let s : List ℕ = now (a .1 .0) in (
+      tells (response-divides (a .0 .0)) s p saidResponse response.Is (λ r. refl) saidResponse-injective x met,
+      (λ r is. response-auth (a .0 .0) s p r (sym met ∙ ap saidResponse is)),
+    )

@@ -4,7 +4,7 @@
 use mathlib.Core.Path.{_≡_, refl, sym, _∙_, ap, subst}
 use mathlib.Core.Bool.{true, false, cond}
 use mathlib.Core.List.{List, []}
-use mathlib.Core.Logic.{_⊎_, inl, inr, _↔_}
+use mathlib.Core.Logic.{_⊎_, inl, inr}
 use Prim.Native.Nat.{ℕ, _+_, _-_, _*_, _≤_, _<_}
 use native.Mathlib.Nat.{le-refl}
 use native.Mathlib.Omega.{arith}
@@ -12,6 +12,7 @@ use borrow.Author.Tests.{le-leb, leb-true, eqb-true, eq-eqb}
 use lib.Dec.{eqb, leb}
 use lib.ListN.{length, drop, length-append}
 use Rattle.base.specs.Bytes.{AreBytes, bytes}
+use Rattle.base.specs.Parts.{heldAt}
 use Rattle.base.specs.Said.{gives, given}
 use Rattle.base.proofs.Bytes.{are-bytes-take, are-bytes-drop}
 use Rattle.base.proofs.Checks.{needs-gives, then-gives, cond-gives, gives-injective}
@@ -21,6 +22,9 @@ use Rattle.rc.specs.Known.{isKnown, knownCodes}
 use Rattle.table.specs.Table.{rowFor}
 use Rattle.table.specs.declared.row.Row.{Row}
 use Rattle.frame.specs.declared.areas.Areas.{Areas}
+use Rattle.frame.specs.declared.response.Response.{Response}
+use Rattle.frame.specs.declared.session.Session.{Session}
+use Rattle.frame.specs.Answer.{responseOf, frameOf, responseByValue}
 use Rattle.frame.specs.Areas.{handleArea, sizedArea}
 use Rattle.frame.specs.Command.{Division}
 use Rattle.frame.specs.Header.{tagOf, sizeOf, codeOf, plain, sessions, isOfTwo, readRc, frameWhole, readFrameTag}
@@ -35,10 +39,11 @@ use Rattle.frame.specs.Layout.{
   layoutFrame,
   layoutResponse,
 }
-use Rattle.frame.specs.Parts.{between, entriesIn, responseParts}
+use Rattle.frame.specs.Parts.{between, entriesIn, entriesOf, told, responseParts}
 use Rattle.frame.specs.Response.{judgeResponse, castResponse, errorAreas, successAreas, responseAreas, readResponse}
-use Rattle.frame.specs.Walk.{walk}
-use Rattle.frame.proofs.Divides.{exactly, one-division, equal}
+use Rattle.frame.specs.Walk.{walk, byValue}
+use Rattle.frame.proofs.Divides.{Divides, divides-by-value}
+use Rattle.frame.proofs.Divisions.{entries-of}
 use Rattle.frame.proofs.FrameLaws.{
   code-fits,
   size-fits,
@@ -62,7 +67,7 @@ use Rattle.frame.proofs.FrameLaws.{
   sized-complete,
 }
 use Rattle.frame.proofs.Standing.{between-at, at-between, length-entries}
-use Rattle.frame.proofs.WalkLaws.{walk-sound, walk-complete, walk-end}
+use Rattle.frame.proofs.WalkLaws.{walk-sound, walk-few, walk-complete, walk-end}
 
 -- ---- the two kinds
 
@@ -154,18 +159,32 @@ module _ (rows : List Row) (cc : ℕ) where
       rw (whole-complete s (t .ten) (t .size-is), tag-complete s (t .ten) (t .tag-two), le-leb 10 (length s) (t .ten))
       (rw (t .code-reads, t .has-row, t .judged, t .walked) refl)
 
+  -- ---- by value
+
+  -- the parts that a division tells, by the areas that are given back
+  abbrev parts : List ℕ → Division → Frame
+  parts s d = told s (tagOf s) (codeOf s) ((frameOf responseOf s d) .handles) ((frameOf responseOf s d) .parameters) (d .entries)
+
+  all-entries : (s : List ℕ) (d : Division) → Steps s d → entriesOf (byValue (d .entries)) ≡ d .entries
+  all-entries s d t = entries-of (d .entries) (walk-few 3 0 s (d .areas .to) (t .walked))
+
+  parts-told : (s : List ℕ) (d : Division) → readResponse rows cc s ≡ gives d → responseParts s (frameOf responseOf s d) ≡ parts s d
+  unfolding responseParts
+  parts-told s d e =
+      let r : Response = frameOf responseOf s d in
+      ap (told s (tagOf s) (codeOf s) (r .handles) (r .parameters)) (all-entries s d (steps-taken s d e))
+
   -- ---- a response that passes is the layout of the parts read, and they are well formed
 
   module _ (s : List ℕ) (p : AreBytes s) (d : Division) (t : Steps s d) where
-    error-sound : eqb (codeOf s) 0 ≡ false → errorAreas s ≡ gives (d .areas) → ErrorParts (responseParts s d) × (layoutResponse (responseParts s d) ≡ s)
-    unfolding responseParts
+    error-sound : eqb (codeOf s) 0 ≡ false → errorAreas s ≡ gives (d .areas) → ErrorParts (parts s d) × (layoutResponse (parts s d) ≡ s)
     error-sound q e =
         let taken = error-taken s e in
         let ten = t .ten in
         let bare = taken .1 in
         let to : d .areas .to ≡ 10 = ap (λ (a : Areas). a .to) (sym (taken .2)) in
         let none : d .entries ≡ [] = gives-injective (sym (t .walked) ∙ walk-end 3 0 s (d .areas .to) (omega arith)) in
-        let parts : ErrorParts (responseParts s d) =
+        let formed : ErrorParts (parts s d) =
         record {
           tag-plain = taken .0;
           code-fits = code-fits s p (t .ten);
@@ -175,8 +194,8 @@ module _ (rows : List Row) (cc : ℕ) where
           no-entries = ap (entriesIn s) none;
           no-parameters = ap (λ (a : Areas). between (a .from) (a .to) s) (sym (taken .2));
         } in (
-          parts,
-          bare-layout (responseParts s d) parts
+          formed,
+          bare-layout (parts s d) formed
               ∙ frame-sound p (record {
                 tag-is = taken .0;
                 code-is = refl;
@@ -187,8 +206,8 @@ module _ (rows : List Row) (cc : ℕ) where
         )
 
     success-sound : codeOf s ≡ 0 → Succeeded (t .row .responses) s (d .areas)
-        → SuccessParts (t .row .responses) (responseParts s d) × (layoutResponse (responseParts s d) ≡ s)
-    unfolding responseParts layoutResponse
+        → SuccessParts (t .row .responses) (parts s d) × (layoutResponse (parts s d) ≡ s)
+    unfolding layoutResponse
     success-sound q taken =
         let h : ℕ = 10 + 4 * t .row .responses in
         let from : ℕ = d .areas .from in
@@ -201,7 +220,7 @@ module _ (rows : List Row) (cc : ℕ) where
         λ plainly.
         let ends = plain-places (length s) h s (rw plainly at (taken .sized)) in
         ap (entriesIn s) (gives-injective (sym (t .walked) ∙ walk-end 3 0 s to (omega arith))) in
-        let again : layoutResponse (responseParts s d) ≡ s =
+        let again : layoutResponse (parts s d) ≡ s =
         frame-again (length s) h s p (t .size-is) (taken .sized) (record {
           handles-at = handles .0;
           handles-end = handles .1;
@@ -218,7 +237,7 @@ module _ (rows : List Row) (cc : ℕ) where
               handle-bytes = are-bytes-take (d .areas .handles - 10) (drop 10 s) (are-bytes-drop 10 s p);
               handle-count = omega (arith, handles .1);
               whole-entries = walked .2;
-              three-entries = rw length-entries (walked .3);
+              three-entries = rw length-entries (walk-few 3 0 s to (t .walked));
               plain-entries = none;
               parameter-bytes = are-bytes-take (to - from) (drop from s) (are-bytes-drop from s p);
             };
@@ -229,16 +248,41 @@ module _ (rows : List Row) (cc : ℕ) where
 
     either-sound : ((eqb (codeOf s) 0 ≡ true) × (successAreas (t .row .responses) s ≡ gives (d .areas)))
         ⊎ ((eqb (codeOf s) 0 ≡ false) × (errorAreas s ≡ gives (d .areas)))
-        → ResponseParts rows cc (responseParts s d) × (layoutResponse (responseParts s d) ≡ s)
+        → ResponseParts rows cc (parts s d) × (layoutResponse (parts s d) ≡ s)
     either-sound (inl e) =
-        let parts = success-sound (eqb-true (codeOf s) 0 (e .0)) (success-taken (t .row .responses) s (t .ten) (e .1)) in
-        (record { row = t .row; has-row = t .has-row; either-kind = inl (parts .0) }, parts .1)
+        let formed = success-sound (eqb-true (codeOf s) 0 (e .0)) (success-taken (t .row .responses) s (t .ten) (e .1)) in
+        (record { row = t .row; has-row = t .has-row; either-kind = inl (formed .0) }, formed .1)
     either-sound (inr e) =
-        let parts = error-sound (e .0) (e .1) in
-        (record { row = t .row; has-row = t .has-row; either-kind = inr (parts .0) }, parts .1)
+        let formed = error-sound (e .0) (e .1) in
+        (record { row = t .row; has-row = t .has-row; either-kind = inr (formed .0) }, formed .1)
+
+    -- the sized bytes end within the frame
+    within : ((eqb (codeOf s) 0 ≡ true) × (successAreas (t .row .responses) s ≡ gives (d .areas)))
+        ⊎ ((eqb (codeOf s) 0 ≡ false) × (errorAreas s ≡ gives (d .areas)))
+        → d .areas .to ≤ length s
+    within (inl e) =
+        let taken = success-taken (t .row .responses) s (t .ten) (e .1) in
+        sized-order (eqb (tagOf s) sessions) (length s) (10 + 4 * t .row .responses) s (taken .room) (le-refl (length s)) (taken .sized) .3
+    within (inr e) =
+        let to : d .areas .to ≡ 10 = ap (λ (a : Areas). a .to) (sym (error-taken s (e .1) .2)) in
+        let ten = t .ten in
+        omega arith
+
+  -- what is given back as the authorization area is the layout of the entries
+  pub response-auth : (s : List ℕ) → AreBytes s → (r : Response) → responseByValue s (readResponse rows cc s) ≡ gives r
+      → heldAt (r .auth) s ≡ layoutEntries 0 (responseParts s r .entries)
+  unfolding responseParts
+  response-auth s p r e =
+      let read = then-gives (readResponse rows cc s) _ e in
+      let d : Division = read .0 in
+      let t = steps-taken s d (read .1) in
+      let either = cond-gives (eqb (codeOf s) 0) (successAreas (t .row .responses) s) (errorAreas s) (t .judged) in
+      let walked = walk-sound 3 0 s (d .areas .to) p (within s p d t either) (t .walked) in
+      subst (λ (r : Response). heldAt (r .auth) s ≡ layoutEntries 0 (responseParts s r .entries)) (gives-injective (read .2))
+      (between-at (length s) (walked .0) (walked .1) ∙ ap (λ (es : List Session). layoutEntries 0 (entriesIn s es)) (sym (all-entries s d t)))
 
   pub response-sound : (s : List ℕ) → AreBytes s → (d : Division) → readResponse rows cc s ≡ gives d
-      → ResponseParts rows cc (responseParts s d) × (layoutResponse (responseParts s d) ≡ s)
+      → ResponseParts rows cc (parts s d) × (layoutResponse (parts s d) ≡ s)
   response-sound s p d e =
       let t = steps-taken s d e in
       either-sound s p d t (cond-gives (eqb (codeOf s) 0) (successAreas (t .row .responses) s) (errorAreas s) (t .judged))
@@ -251,8 +295,7 @@ module _ (rows : List Row) (cc : ℕ) where
       -- from where the parts stand to the division
       with-areas : (areas : Areas) → Holds s areas (f .handles) (f .parameters) (layoutEntries 0 (f .entries))
           → sizedArea (eqb (f .tag) sessions) (length s) s (10 + 4 * row .responses) ≡ gives areas
-          → (d : Division) × (readResponse rows cc s ≡ gives d) × (responseParts s d ≡ f)
-      unfolding responseParts
+          → (d : Division) × (readResponse rows cc s ≡ gives d) × (parts s d ≡ f)
       with-areas areas held sized =
           let tag : tagOf s ≡ f .tag = framed .tag-is in
           let code : codeOf s ≡ f .code = framed .code-is in
@@ -288,7 +331,7 @@ module _ (rows : List Row) (cc : ℕ) where
           let no-entries : length entries ≡ 0 = rw (w .plain-entries q) refl in
           omega arith
 
-      success-complete : length s < 4294967296 → (d : Division) × (readResponse rows cc s ≡ gives d) × (responseParts s d ≡ f)
+      success-complete : length s < 4294967296 → (d : Division) × (readResponse rows cc s ≡ gives d) × (parts s d ≡ f)
       success-complete small =
           let entries : List ℕ = layoutEntries 0 (f .entries) in
           let count : 10 + length (f .handles) ≡ 10 + 4 * row .responses = ap (λ (n : ℕ). 10 + n) (w .handle-count) in
@@ -297,8 +340,7 @@ module _ (rows : List Row) (cc : ℕ) where
           small count plain-end (framed .body-at) (framed .body-long) in
           with-areas (sized .0) (sized .2) (sized .1)
 
-    error-complete : ErrorParts f → Framed s plain (f .code) [] → (d : Division) × (readResponse rows cc s ≡ gives d) × (responseParts s d ≡ f)
-    unfolding responseParts
+    error-complete : ErrorParts f → Framed s plain (f .code) [] → (d : Division) × (readResponse rows cc s ≡ gives d) × (parts s d ≡ f)
     error-complete e framed =
         let tag : tagOf s ≡ plain = framed .tag-is in
         let code : codeOf s ≡ f .code = framed .code-is in
@@ -324,7 +366,7 @@ module _ (rows : List Row) (cc : ℕ) where
         )
 
   success-laid : (f : Frame) (row : Row) → rowFor rows cc ≡ gives row → SuccessParts (row .responses) f
-      → (d : Division) × (readResponse rows cc (layoutResponse f) ≡ gives d) × (responseParts (layoutResponse f) d ≡ f)
+      → (d : Division) × (readResponse rows cc (layoutResponse f) ≡ gives d) × (parts (layoutResponse f) d ≡ f)
   unfolding layoutResponse
   success-laid f row found e =
       let w = e .well-formed in
@@ -336,32 +378,23 @@ module _ (rows : List Row) (cc : ℕ) where
       success-complete f row found s (e .success) w framed small
 
   error-laid : (f : Frame) (row : Row) → rowFor rows cc ≡ gives row → ErrorParts f
-      → (d : Division) × (readResponse rows cc (layoutResponse f) ≡ gives d) × (responseParts (layoutResponse f) d ≡ f)
+      → (d : Division) × (readResponse rows cc (layoutResponse f) ≡ gives d) × (parts (layoutResponse f) d ≡ f)
   error-laid f row found e =
       let framed = frame-complete plain (f .code) [] (omega arith) (e .code-fits) (omega arith) in
       rw (bare-layout f e) (error-complete f row found (layoutFrame plain (f .code) []) e framed)
 
   pub response-complete : (f : Frame) → ResponseParts rows cc f
-      → (d : Division) × (readResponse rows cc (layoutResponse f) ≡ gives d) × (responseParts (layoutResponse f) d ≡ f)
+      → (d : Division) × (readResponse rows cc (layoutResponse f) ≡ gives d) × (parts (layoutResponse f) d ≡ f)
   response-complete f c = by (c .either-kind)
     where
       by : SuccessParts (c .row .responses) f ⊎ ErrorParts f
-          → (d : Division) × (readResponse rows cc (layoutResponse f) ≡ gives d) × (responseParts (layoutResponse f) d ≡ f)
+          → (d : Division) × (readResponse rows cc (layoutResponse f) ≡ gives d) × (parts (layoutResponse f) d ≡ f)
       by (inl e) = success-laid f (c .row) (c .has-row) e
       by (inr e) = error-laid f (c .row) (c .has-row) e
 
-  -- ---- and so
+  -- ---- and so of what is given back by value
 
-  -- exactly the layouts of well-formed parts pass
-  pub response-exactly : (s : List ℕ) → AreBytes s
-      → ((d : Division) × (readResponse rows cc s ≡ gives d)) ↔ ((f : Frame) × ResponseParts rows cc f × (layoutResponse f ≡ s))
-  response-exactly = exactly (readResponse rows cc) responseParts layoutResponse (ResponseParts rows cc) response-sound response-complete
-
-  -- no response divides two ways
-  pub response-one-division : (f g : Frame) → ResponseParts rows cc f → ResponseParts rows cc g → layoutResponse f ≡ layoutResponse g → f ≡ g
-  response-one-division = one-division (readResponse rows cc) responseParts layoutResponse (ResponseParts rows cc) response-sound response-complete
-
-  -- two responses that pass have equal parts exactly where they have equal bytes
-  pub response-equal : (s t : List ℕ) → AreBytes s → AreBytes t → (d e : Division)
-      → readResponse rows cc s ≡ gives d → readResponse rows cc t ≡ gives e → (responseParts s d ≡ responseParts t e) ↔ (s ≡ t)
-  response-equal = equal (readResponse rows cc) responseParts layoutResponse (ResponseParts rows cc) response-sound response-complete
+  pub response-divides : Divides (λ s. responseByValue s (readResponse rows cc s)) responseParts layoutResponse (ResponseParts rows cc)
+  response-divides =
+      divides-by-value (readResponse rows cc) parts layoutResponse (ResponseParts rows cc) (frameOf responseOf) responseParts
+      parts-told response-sound response-complete

@@ -6,7 +6,16 @@ use denote.Ref.{now}
 use Rattle.base.specs.Parts.{behind, upTo}
 use Rattle.base.specs.Single.{Single, SinglePart}
 use Rattle.base.proofs.Refusals.{named-numbered}
-use Rattle.base.proofs.Answers.{injective-by, unsaid, saidNumber16-injective, saidNumber32-injective, saidOutcome-injective, saidRange-injective}
+use Rattle.base.proofs.Answers.{
+  injective-by,
+  unsaid,
+  saidCommandCode-injective,
+  saidNumber32-injective,
+  saidOutcome-injective,
+  saidRange-injective,
+  saidResponseCode-injective,
+  saidTag-injective,
+}
 use Rattle.base.proofs.Parts.{part-once}
 use Rattle.table.specs.Dispatch.{dispatch, commandCodes}
 use Rattle.frame.specs.declared.command.CommandRead.{CommandRead}
@@ -116,7 +125,7 @@ saidResponse-injective = injective-by saidResponse (unsaid response.Is response.
 -- ---- the header
 
 frame-tag : Single 1 frame-tag-kinds.ps frame-tag-kinds.r frame-tag-reads.Post
-frame-tag κs a x y v w p q = (saidNumber16-injective x y (p ∙ sym q), refl)
+frame-tag κs a x y v w p q = (saidTag-injective x y (p ∙ sym q), refl)
 
 frame-size : Single 1 frame-size-kinds.ps frame-size-kinds.r frame-size-reads.Post
 frame-size κs a x y v w p q = (saidNumber32-injective x y (p ∙ sym q), refl)
@@ -133,7 +142,7 @@ frame-is-empty κs a x y v w p q = (p ∙ sym q, refl)
 -- ---- commands
 
 command-cc : Single 1 command-cc-kinds.ps command-cc-kinds.r command-cc-reads.Post
-command-cc κs a x y v w p q = (saidNumber32-injective x y (p ∙ sym q), refl)
+command-cc κs a x y v w p q = (saidCommandCode-injective x y (p ∙ sym q), refl)
 
 command-set-cc : Single 1 command-set-cc-kinds.ps command-set-cc-kinds.r command-set-cc-reads.Post
 command-set-cc κs a x y v w p q = (saidOutcome-injective x y (p .0 ∙ sym (q .0)), λ i. ((p .1 ∙ sym (q .1)) i, (tt, tt)))
@@ -198,7 +207,7 @@ command-parts κs a x y v w p q = (saidCommand-injective x y (p ∙ sym q), refl
 -- ---- responses
 
 response-rc : Single 1 response-rc-kinds.ps response-rc-kinds.r response-rc-reads.Post
-response-rc κs a x y v w p q = (saidNumber32-injective x y (p ∙ sym q), refl)
+response-rc κs a x y v w p q = (saidResponseCode-injective x y (p ∙ sym q), refl)
 
 response-set-rc : Single 1 response-set-rc-kinds.ps response-set-rc-kinds.r response-set-rc-reads.Post
 response-set-rc κs a x y v w p q = (saidOutcome-injective x y (p .0 ∙ sym (q .0)), λ i. ((p .1 ∙ sym (q .1)) i, (tt, tt)))

@@ -1,15 +1,14 @@
 -- Numbers and parts of a frame that stand at a place: what stands there is read there, and what is read there stands there.
 -- Assumes nothing.
 use mathlib.Core.Path.{_≡_, refl, sym, _∙_, ap}
-use mathlib.Core.List.{List, [], _∷_, _++_, append-nil}
+use mathlib.Core.List.{List, [], _∷_, _++_}
 use Prim.Native.Nat.{ℕ, suc, _+_, _-_, _^_, _≤_, _<_}
 use native.Mathlib.Omega.{arith}
 use borrow.Author.Tests.{le-leb}
-use lib.ListN.{length, length-take, take, drop, length-drop}
-use lib.Seq.{take-all}
+use lib.ListN.{length, length-take, take, drop}
 use Rattle.base.specs.Bytes.{AreBytes, number, bytes}
 use Rattle.base.proofs.Bytes.{length-bytes, number-bytes}
-use Rattle.base.proofs.Places.{At, at-by, at-first, at-second, at-both, at-read, length-read, read-within}
+use Rattle.base.proofs.Places.{At, at-first, at-second, at-both, at-read, length-read, read-within}
 use Rattle.frame.specs.declared.session.Session.{Session}
 use Rattle.frame.specs.Parts.{between, entriesIn}
 use Rattle.frame.proofs.EntryLaws.{field-sound}
@@ -43,18 +42,12 @@ between-at {s} {x} {from} to a e =
     let long : to - from ≡ length x = omega arith in
     rw long (a .there)
 
-pub behind-at : {s x : List ℕ} {place : ℕ} → At s place x → place + length x ≡ length s → drop place s ≡ x
-behind-at {s} {x} {place} a e = sym (take-all (length s - place) (drop place s) (rw length-drop (omega arith))) ∙ between-at (length s) a e
-
 pub at-between : (s : List ℕ) (from to : ℕ) → from ≤ to → to ≤ length s
     → At s from (between from to s) × (from + length (between from to s) ≡ to)
 at-between s from to h k =
     let inside : from + (to - from) ≤ length s = omega arith in
     let long = length-read s from (to - from) inside in
     (at-read s from (to - from) inside, omega arith)
-
-pub at-behind : (s : List ℕ) (place : ℕ) → place ≤ length s → At s place (drop place s) × (place + length (drop place s) ≡ length s)
-at-behind s place h = (at-by (drop place s) [] h (sym (append-nil (drop place s))), rw length-drop (omega arith))
 
 -- what stands within the first n bytes stands in all of them, and the other way round
 pub at-within : (n : ℕ) (s : List ℕ) {x : List ℕ} {place : ℕ} → At (take n s) place x → At s place x

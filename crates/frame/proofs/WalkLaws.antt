@@ -44,25 +44,30 @@ passes (suc k) width s place e = elim (cond-gives (leb (length s) place) _ _ e) 
       subst (Passes width s (suc k) place) (gives-injective (rest .2)) (passed (one .1) (passes k width s (behind (one .0)) (rest .1)))
 ]
 
+-- no more entries than may come
+few : {k width : ℕ} {s : List ℕ} {place : ℕ} {es : List Session} → Passes width s k place es → length es ≤ k
+few (ended end) = omega arith
+few (passed read more) = let rest = few more in omega arith
+
+pub walk-few : (k width : ℕ) (s : List ℕ) (place : ℕ) {es : List Session} → walk k width s place ≡ gives es → length es ≤ k
+walk-few k width s place e = few (passes k width s place e)
+
 -- what the walk passes is the layout of whole entries, and fills what is left
 module _ (width : ℕ) (s : List ℕ) (b : AreBytes s) where
   sound : {k place : ℕ} {es : List Session} → place ≤ length s → Passes width s k place es
       → At s place (layoutEntries width (entriesIn s es))
       × (place + length (layoutEntries width (entriesIn s es)) ≡ length s)
       × WholeEntries width (entriesIn s es)
-      × (length es ≤ k)
-  sound h (ended end) = (record { inside = omega arith; there = refl }, omega arith, tt, omega arith)
+  sound h (ended end) = (record { inside = omega arith; there = refl }, omega arith, tt)
   sound h (passed {place = place} {e = e} {es = es} read more) =
       let one = entry-sound width s place b h read in
       let ends = one .ends in
       let inside = one .there .inside in
       let rest = sound (omega arith) more in
-      let fills = rest .1 in
-      let few = rest .3 in (
+      let fills = rest .1 in (
         at-both (one .there) (at-moved (sym ends) (rest .0)),
         rw (length-append (layoutEntry width (entryIn s e)) (layoutEntries width (entriesIn s es))) (omega arith),
         (one .whole, rest .2),
-        omega arith,
       )
 
 pub walk-sound : (k width : ℕ) (s : List ℕ) (place : ℕ) {es : List Session} → AreBytes s → place ≤ length s
@@ -70,7 +75,6 @@ pub walk-sound : (k width : ℕ) (s : List ℕ) (place : ℕ) {es : List Session
     → At s place (layoutEntries width (entriesIn s es))
     × (place + length (layoutEntries width (entriesIn s es)) ≡ length s)
     × WholeEntries width (entriesIn s es)
-    × (length es ≤ k)
 walk-sound k width s place b h e = sound width s b h (passes k width s place e)
 
 -- the layout of whole entries is passed, and they are what is read

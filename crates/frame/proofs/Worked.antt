@@ -1,89 +1,117 @@
--- The starred rows of document 01's worked frames, together: what the definitions say of each, at the port's table.
+-- The starred rows of document 01's worked frames, together: what the definitions answer to each at the port's table, in the numbers
+-- that callers see.
 -- Assumes nothing.
 use mathlib.Core.Path.{_≡_, refl}
-use mathlib.Core.List.{List, [], _∷_}
+use mathlib.Core.List.{List, [], _∷_, _++_}
 use Prim.Native.Nat.{ℕ}
-use Rattle.base.specs.Bytes.{number, bytes}
-use Rattle.base.specs.Said.{gives, refuses}
-use Rattle.rc.specs.Code.{base, readCode, readFmt0}
+use Rattle.base.specs.Bytes.{number}
+use Rattle.base.specs.Said.{Said, gives, refuses, then}
+use Rattle.rc.specs.Code.{readIndex, readFmt1, readFmt0, readCode, baseOf, kindOf, indexOf}
 use Rattle.rc.specs.Known.{isKnown, knownCodes}
-use Rattle.rc.specs.declared.code.Code.the-variants.{Parameter, Handle, Session}
-use Rattle.rc.proofs.Worked.{codes-of-84, codes-refused}
 use Rattle.table.specs.Dispatch.{dispatch, commandCodes}
 use Rattle.table.specs.Tags.{tags}
-use Rattle.frame.specs.declared.areas.Areas.{Areas}
+use Rattle.base.specs.declared.part.Span.{Span}
+use Rattle.frame.specs.Answer.{commandByValue, responseByValue, whole}
 use Rattle.frame.specs.Areas.{handleArea, sizedArea}
 use Rattle.frame.specs.Command.{commandHandles, commandAreas, judgeCommand, castCommand, readCommand}
 use Rattle.frame.specs.Header.{tagOf, sizeOf, codeOf, readCc, readRc, framePrefix, frameWhole, readFrameTag}
 use Rattle.frame.specs.Response.{judgeResponse, castResponse, errorAreas, successAreas, responseAreas, readResponse}
 use Rattle.frame.specs.Walk.{readTpm2b, readSigned, readEntry, walk}
 
+-- ---- the calls
+
+-- a call with what it is given; a response with the code of the command that it answers
+pub data Asked : Type 0 where
+  cast-command validate-command parts-of-command : List ℕ → Asked
+  validate-response parts-of-response : ℕ → List ℕ → Asked
+  read-code : ℕ → Asked
+
+-- of all parts the areas, each by its two ends: handles, entries, parameters
+abbrev pub places : Span → Span → Span → List ℕ
+places handles entries parameters =
+    handles .from ∷ handles .to ∷ entries .from ∷ entries .to ∷ parameters .from ∷ parameters .to ∷ []
+
+-- what the call answers: a range by its two ends, a code by its base, the number of its kind and its index, a check by nothing
+abbrev pub answer : Asked → Said (List ℕ)
+answer (cast-command s) = then (whole s (castCommand dispatch commandCodes s)) λ p. gives (p .from ∷ p .to ∷ [])
+answer (validate-command s) = then (readCommand dispatch commandCodes s) λ d. gives []
+answer (parts-of-command s) =
+    then (commandByValue s (readCommand dispatch commandCodes s)) λ c. gives (places (c .handles) (c .auth) (c .parameters))
+answer (validate-response cc s) = then (readResponse dispatch cc s) λ d. gives []
+answer (parts-of-response cc s) =
+    then (responseByValue s (readResponse dispatch cc s)) λ r. gives (places (r .handles) (r .auth) (r .parameters))
+answer (read-code n) = then (readCode n) λ c. gives (baseOf c ∷ kindOf c ∷ indexOf c ∷ [])
+
+-- ---- the frames
+
 -- A: Startup, two parameter bytes, with its size field
-abbrev A : ℕ → List ℕ
+abbrev pub A : ℕ → List ℕ
 A size = 0x80 ∷ 0x01 ∷ 0 ∷ 0 ∷ 0 ∷ size ∷ 0 ∷ 0 ∷ 0x01 ∷ 0x44 ∷ 0 ∷ 0 ∷ []
 
 -- B: Unseal, one handle, with its size field, its authorization size and its entries
-abbrev B : ℕ → ℕ → List ℕ → List ℕ
+abbrev pub B : ℕ → ℕ → List ℕ → List ℕ
 B size auth entries =
     0x80 ∷ 0x02 ∷ 0 ∷ 0 ∷ 0 ∷ size ∷ 0 ∷ 0 ∷ 0x01 ∷ 0x5e ∷ 0x80 ∷ 0 ∷ 0 ∷ 0 ∷ 0 ∷ 0 ∷ 0 ∷ auth ∷ entries
 
-abbrev entry : List ℕ
+abbrev pub entry : List ℕ
 entry = 0x40 ∷ 0 ∷ 0 ∷ 0x09 ∷ 0 ∷ 0 ∷ 0 ∷ 0 ∷ 0 ∷ []
 
 -- the same less its last byte
-abbrev cutEntry : List ℕ
+abbrev pub cutEntry : List ℕ
 cutEntry = 0x40 ∷ 0 ∷ 0 ∷ 0x09 ∷ 0 ∷ 0 ∷ 0 ∷ 0 ∷ []
 
 -- an error response, and C: a response to GetRandom with its parameter size
-abbrev failed : List ℕ
+abbrev pub failed : List ℕ
 failed = 0x80 ∷ 0x01 ∷ 0 ∷ 0 ∷ 0 ∷ 0x0a ∷ 0 ∷ 0 ∷ 0x01 ∷ 0x01 ∷ []
 
-abbrev C : ℕ → List ℕ
+abbrev pub C : ℕ → List ℕ
 C size =
     0x80 ∷ 0x02 ∷ 0 ∷ 0 ∷ 0 ∷ 0x17 ∷ 0 ∷ 0 ∷ 0 ∷ 0 ∷ 0 ∷ 0 ∷ 0 ∷ size ∷ 0 ∷ 0x02 ∷ 0xaa ∷ 0xbb ∷ 0 ∷ 0 ∷ 0x01 ∷ 0 ∷ 0 ∷ []
 
-abbrev areas : ℕ → ℕ → ℕ → Areas
-areas handles from to = record { handles = handles; from = from; to = to }
+-- ---- the table
 
-pub starred :
-    (readCommand dispatch commandCodes [] ≡ refuses (1 ∷ 0 ∷ 10 ∷ 0 ∷ []))
-    × (readCommand dispatch commandCodes (A 0x0c) ≡ gives (record { areas = areas 10 10 10; entries = [] }))
-    × (readCommand dispatch commandCodes (A 0x0b) ≡ refuses (2 ∷ 11 ∷ 1 ∷ []))
-    × (readCommand dispatch commandCodes (A 0x0d) ≡ refuses (1 ∷ 12 ∷ 1 ∷ 0 ∷ []))
-    × (readCommand dispatch commandCodes (B 0x1b 9 entry) ≡ gives (record {
-      areas = areas 14 18 27;
-      entries = record { handle = 0x4000_0009; nonce = record { at = 24; size = 0 }; attributes = 0; hmac = record { at = 27; size = 0 } } ∷ [];
-    }))
-    × (readCommand dispatch commandCodes (B 0x12 0 []) ≡ gives (record { areas = areas 14 18 18; entries = [] }))
-    × (castCommand dispatch commandCodes (B 0x1a 8 cutEntry) ≡ gives (areas 14 18 26))
-    × (readCommand dispatch commandCodes (B 0x1a 8 cutEntry) ≡ refuses (1 ∷ 25 ∷ 2 ∷ 1 ∷ []))
-    × (readResponse dispatch 0x15e failed ≡ gives (record { areas = areas 10 10 10; entries = [] }))
-    × (readResponse dispatch 0x17b (C 0x04) ≡ gives (record {
-      areas = areas 10 14 18;
-      entries = record { handle = 0; nonce = record { at = 20; size = 0 }; attributes = 1; hmac = record { at = 23; size = 0 } } ∷ [];
-    }))
-    × (readResponse dispatch 0x17b (C 0x0a) ≡ refuses (1 ∷ 14 ∷ 10 ∷ 9 ∷ []))
-    × (readCode 0x1c4 ≡ gives (Parameter (base 0x84) 1))
-    × (readCode 0x184 ≡ gives (Handle (base 0x84) 1))
-    × (readCode 0x984 ≡ gives (Session (base 0x84) 1))
-    × (readCode 0xc4 ≡ refuses (5 ∷ 0 ∷ 0xc4 ∷ []))
-    × (readCode 0x10c4 ≡ refuses (5 ∷ 0 ∷ 0x10c4 ∷ []))
-unfolding number dispatch tags tagOf sizeOf codeOf readCc readRc framePrefix frameWhole readFrameTag handleArea sizedArea commandHandles commandAreas judgeCommand castCommand readCommand judgeResponse castResponse errorAreas successAreas responseAreas readResponse readTpm2b readSigned readEntry walk readCode readFmt0 isKnown knownCodes
-starred = (
-  refl,
-  refl,
-  refl,
-  refl,
-  refl,
-  refl,
-  refl,
-  refl,
-  refl,
-  refl,
-  refl,
-  codes-of-84 .0,
-  codes-of-84 .1,
-  codes-of-84 .2,
-  codes-refused .0,
-  codes-refused .1,
-)
+pub record Row : Type 0 where
+  pub input : Asked
+  pub result : Said (List ℕ)
+
+abbrev pub row : Asked → Said (List ℕ) → Row
+row input result = record { input = input; result = result }
+
+abbrev pub passes : Said (List ℕ)
+passes = gives []
+
+-- the twelve rows, in document 01's order, and one without a star: a fourth entry is refused before it is read
+-- what a writer says of the parts of B cut has to wait for the writers
+abbrev pub rows : List Row
+rows =
+    row (validate-command []) (refuses (1 ∷ 0 ∷ 10 ∷ 0 ∷ []))
+    ∷ row (validate-command (A 0x0c)) passes
+    ∷ row (parts-of-command (A 0x0c)) (gives (10 ∷ 10 ∷ 10 ∷ 10 ∷ 10 ∷ 12 ∷ []))
+    ∷ row (validate-command (A 0x0b)) (refuses (2 ∷ 11 ∷ 1 ∷ []))
+    ∷ row (validate-command (A 0x0d)) (refuses (1 ∷ 12 ∷ 1 ∷ 0 ∷ []))
+    ∷ row (parts-of-command (B 0x1b 9 entry)) (gives (10 ∷ 14 ∷ 18 ∷ 27 ∷ 27 ∷ 27 ∷ []))
+    ∷ row (validate-command (B 0x12 0 [])) passes
+    ∷ row (cast-command (B 0x1a 8 cutEntry)) (gives (0 ∷ 26 ∷ []))
+    ∷ row (validate-command (B 0x1a 8 cutEntry)) (refuses (1 ∷ 25 ∷ 2 ∷ 1 ∷ []))
+    ∷ row (validate-response 0x15e failed) passes
+    ∷ row (parts-of-response 0x17b (C 0x04)) (gives (10 ∷ 10 ∷ 18 ∷ 23 ∷ 14 ∷ 18 ∷ []))
+    ∷ row (validate-response 0x17b (C 0x0a)) (refuses (1 ∷ 14 ∷ 10 ∷ 9 ∷ []))
+    ∷ row (read-code 0x1c4) (gives (0x84 ∷ 3 ∷ 1 ∷ []))
+    ∷ row (read-code 0x184) (gives (0x84 ∷ 4 ∷ 1 ∷ []))
+    ∷ row (read-code 0x984) (gives (0x84 ∷ 5 ∷ 1 ∷ []))
+    ∷ row (read-code 0xc4) (refuses (5 ∷ 0 ∷ 0xc4 ∷ []))
+    ∷ row (read-code 0x10c4) (refuses (5 ∷ 0 ∷ 0x10c4 ∷ []))
+    ∷ row (validate-command (B 0x2e 28 (entry ++ (entry ++ (entry ++ (0 ∷ [])))))) (refuses (6 ∷ 45 ∷ 3 ∷ 4 ∷ []))
+    ∷ []
+
+abbrev pub answers : List Row → List (Said (List ℕ))
+answers [] = []
+answers (r ∷ rs) = answer (r .input) ∷ answers rs
+
+abbrev pub results : List Row → List (Said (List ℕ))
+results [] = []
+results (r ∷ rs) = r .result ∷ results rs
+
+pub starred : answers rows ≡ results rows
+unfolding number dispatch tags tagOf sizeOf codeOf readCc readRc framePrefix frameWhole readFrameTag handleArea sizedArea commandHandles commandAreas judgeCommand castCommand readCommand judgeResponse castResponse errorAreas successAreas responseAreas readResponse readTpm2b readSigned readEntry walk readCode readFmt1 readFmt0 readIndex isKnown knownCodes
+starred = refl

@@ -56,26 +56,37 @@ abbrev pub handleWidth : Bool → ℕ
 handleWidth true = 4
 handleWidth false = 0
 
--- a command and a response by value: the sized bytes are the entries of the one and the parameters of the other
+-- a command and a response by value, from the tag, the code, where the frame ends, its areas and its entries: the sized bytes are
+-- the entries of the one and the parameters of the other
+abbrev pub commandOf : ℕ → ℕ → ℕ → Areas → Entries → Command
+commandOf tag code end areas entries = record {
+  tag = record { 0 = tag };
+  cc = record { 0 = code };
+  handles = span 10 (areas .handles);
+  auth = span (areas .from) (areas .to);
+  parameters = span (areas .to) end;
+  entries = entries;
+}
+
+abbrev pub responseOf : ℕ → ℕ → ℕ → Areas → Entries → Response
+responseOf tag code end areas entries = record {
+  tag = record { 0 = tag };
+  rc = record { 0 = code };
+  handles = span 10 (areas .handles);
+  parameters = span (areas .from) (areas .to);
+  auth = span (areas .to) end;
+  entries = entries;
+}
+
+-- what is given back of a division of some bytes
+abbrev pub frameOf : {B : Type 0} → (ℕ → ℕ → ℕ → Areas → Entries → B) → List ℕ → Division → B
+frameOf of s d = of (tagOf s) (codeOf s) (length s) (d .areas) (byValue (d .entries))
+
 abbrev pub commandByValue : List ℕ → Said Division → Said Command
-commandByValue s division = then division λ d. gives (record {
-  tag = record { 0 = tagOf s };
-  cc = record { 0 = codeOf s };
-  handles = span 10 (d .areas .handles);
-  auth = span (d .areas .from) (d .areas .to);
-  parameters = span (d .areas .to) (length s);
-  entries = byValue (d .entries);
-})
+commandByValue s division = then division λ d. gives (frameOf commandOf s d)
 
 abbrev pub responseByValue : List ℕ → Said Division → Said Response
-responseByValue s division = then division λ d. gives (record {
-  tag = record { 0 = tagOf s };
-  rc = record { 0 = codeOf s };
-  handles = span 10 (d .areas .handles);
-  parameters = span (d .areas .from) (d .areas .to);
-  auth = span (d .areas .to) (length s);
-  entries = byValue (d .entries);
-})
+responseByValue s division = then division λ d. gives (frameOf responseOf s d)
 
 -- ---- ranges of lent bytes
 

@@ -3,6 +3,7 @@ ghost use mathlib.Core.Path.{_≡_};
 ghost use Rattle.base.specs.Answer.{saidCount};
 ghost use Rattle.frame.specs.Answer.{saidAreas};
 ghost use Rattle.frame.specs.Areas.{handleArea, sizedArea};
+use crate::header::HEADER_SIZE;
 use base::answer::Count;
 use base::answer::Number32;
 use base::error::TpmError;
@@ -10,13 +11,13 @@ use base::field::left;
 use base::field::read_u32;
 
 // Where the handles end, where the sized bytes start and where they end; the rest goes on to the frame's end.
-pub struct Areas {
-    pub handles: usize,
-    pub from: usize,
-    pub to: usize,
+pub(crate) struct Areas {
+    pub(crate) handles: usize,
+    pub(crate) from: usize,
+    pub(crate) to: usize,
 }
 
-pub enum Divided {
+pub(crate) enum Divided {
     Is(Areas),
     Refused(TpmError),
 }
@@ -26,15 +27,15 @@ pub(crate) fn handle_area(handles: u8, s: &[u8]) -> Count
     ensures { λ r. ⌜ saidCount r ≡ handleArea handles (now (s .entry)) ⌝ }
 {
     let needed = 4 * (handles as usize);
-    let left = left(s.len(), 10);
+    let left = left(s.len(), HEADER_SIZE);
     if left < needed {
         return Count::Refused(TpmError::UnexpectedEnd {
-            offset: 10,
+            offset: HEADER_SIZE,
             needed,
             available: left,
         });
     }
-    Count::Is(10 + needed)
+    Count::Is(HEADER_SIZE + needed)
 }
 
 // The sized bytes behind the handles. Without sessions there is no size, and they end where the caller says.

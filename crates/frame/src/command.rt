@@ -2,7 +2,7 @@
 ghost use mathlib.Core.Path.{_≡_};
 ghost use borrow.Author.Needs.{needs};
 ghost use lib.ListN.{length};
-ghost use Rattle.base.specs.Answer.{saidCount, saidNumber32, saidOutcome, saidRange};
+ghost use Rattle.base.specs.Answer.{saidCommandCode, saidCount, saidOutcome, saidRange};
 ghost use Rattle.base.specs.Parts.{IsPart, Ties, behind, upTo};
 ghost use Rattle.base.specs.Said.{after, done};
 ghost use Rattle.table.specs.Dispatch.{commandCodes, dispatch};
@@ -12,6 +12,8 @@ ghost use Rattle.frame.specs.Header.{readCc, setCc};
 use crate::areas::Divided;
 use crate::areas::handle_area;
 use crate::areas::sized_area;
+use crate::header::HEADER_SIZE;
+use crate::header::SESSIONS;
 use crate::header::frame_prefix;
 use crate::header::frame_tag;
 use crate::header::frame_whole;
@@ -19,11 +21,11 @@ use crate::header::short;
 use crate::session::Entries;
 use crate::walk::Walked;
 use crate::walk::walk;
+use base::answer::CommandCode;
 use base::answer::Count;
-use base::answer::Number16;
-use base::answer::Number32;
 use base::answer::Outcome;
 use base::answer::Range;
+use base::answer::Tag;
 use base::code::TpmCc;
 use base::code::TpmSt;
 use base::error::TpmError;
@@ -57,17 +59,17 @@ pub enum CommandRead {
 // ---- the code
 
 // The command code, one that TpmCc has.
-pub fn cc(s: &[u8]) -> Number32
-    ensures { λ r. ⌜ saidNumber32 r ≡ readCc commandCodes (now (s .entry)) ⌝ }
+pub fn cc(s: &[u8]) -> CommandCode
+    ensures { λ r. ⌜ saidCommandCode r ≡ readCc commandCodes (now (s .entry)) ⌝ }
 {
-    if s.len() < 10 {
-        return Number32::Refused(short(s.len()));
+    if s.len() < HEADER_SIZE {
+        return CommandCode::Refused(short(s.len()));
     }
     let cc = TpmCc(be32(s[6], s[7], s[8], s[9]));
     if cc_known(cc) {
-        Number32::Is(cc.0)
+        CommandCode::Is(cc)
     } else {
-        Number32::Refused(cc.refused(6))
+        CommandCode::Refused(cc.refused(6))
     }
 }
 
@@ -76,7 +78,7 @@ pub fn set_cc(s: &mut [u8], cc: TpmCc) -> Outcome
     ensures answer { λ r. ⌜ saidOutcome r ≡ done (setCc dispatch (cc .0) (now (s .entry))) ⌝ }
     ensures bytes { λ r. ⌜ now (s .exit) ≡ after (now (s .entry)) (setCc dispatch (cc .0) (now (s .entry))) ⌝ }
 {
-    if s.len() < 10 {
+    if s.len() < HEADER_SIZE {
         return Outcome::Refused(short(s.len()));
     }
     match find(cc) {
@@ -91,7 +93,7 @@ pub fn set_cc(s: &mut [u8], cc: TpmCc) -> Outcome
 fn handles_end(s: &[u8]) -> Count
     ensures { λ r. ⌜ saidCount r ≡ commandHandles dispatch commandCodes (now (s .entry)) ⌝ }
 {
-    if s.len() < 10 {
+    if s.len() < HEADER_SIZE {
         return Count::Refused(short(s.len()));
     }
     let cc = TpmCc(be32(s[6], s[7], s[8], s[9]));
@@ -115,7 +117,7 @@ fn areas(s: &[u8]) -> Divided
         Count::Is(handles) => {
             let tag = TpmSt(be16(s[0], s[1]));
             if tag_known(tag) {
-                sized_area(tag.0 == 0x8002, handles, s, handles)
+                sized_area(tag.0 == SESSIONS, handles, s, handles)
             } else {
                 Divided::Refused(tag.refused(0))
             }
@@ -128,10 +130,10 @@ fn judge(s: &[u8]) -> Divided
     ensures { λ r. ⌜ saidAreas r ≡ judgeCommand dispatch commandCodes (now (s .entry)) ⌝ }
 {
     match frame_tag(s) {
-        Number16::Refused(e) => Divided::Refused(e),
-        Number16::Is(tag) => match handles_end(s) {
+        Tag::Refused(e) => Divided::Refused(e),
+        Tag::Is(tag) => match handles_end(s) {
             Count::Refused(e) => Divided::Refused(e),
-            Count::Is(handles) => sized_area(tag == 0x8002, handles, s, handles),
+            Count::Is(handles) => sized_area(tag.0 == SESSIONS, handles, s, handles),
         },
     }
 }
@@ -150,7 +152,10 @@ pub fn handles_range(s: &[u8]) -> Range
 {
     match handles_end(s) {
         Count::Refused(e) => Range::Refused(e),
-        Count::Is(to) => Range::Is { from: 10, to },
+        Count::Is(to) => Range::Is {
+            from: HEADER_SIZE,
+            to,
+        },
     }
 }
 
@@ -292,19 +297,13 @@ pub fn cast_prefix_tail_mut(s: &mut [u8]) -> &mut [u8]
 
 // ---- the full check
 
+// Whether it passes: areas and walk stand in `parts` alone.
 pub fn validate(s: &[u8]) -> Outcome
     ensures { λ r. ⌜ saidOutcome r ≡ done (readCommand dispatch commandCodes (now (s .entry))) ⌝ }
 {
-    match cast_areas(s) {
-        Divided::Refused(e) => Outcome::Refused(e),
-        Divided::Is(a) => {
-            let from = a.from;
-            let to = a.to;
-            match walk(true, &s[..to], from) {
-                Walked::Refused(e) => Outcome::Refused(e),
-                Walked::Is(_) => Outcome::Done,
-            }
-        }
+    match parts(s) {
+        CommandRead::Refused(e) => Outcome::Refused(e),
+        CommandRead::Is(_) => Outcome::Done,
     }
 }
 
@@ -323,7 +322,7 @@ pub fn parts(s: &[u8]) -> CommandRead
                     tag: TpmSt(be16(s[0], s[1])),
                     cc: TpmCc(be32(s[6], s[7], s[8], s[9])),
                     handles: Span {
-                        from: 10,
+                        from: HEADER_SIZE,
                         to: a.handles,
                     },
                     auth: Span { from, to },

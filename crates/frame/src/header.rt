@@ -3,14 +3,14 @@ ghost use mathlib.Core.Path.{_≡_};
 ghost use mathlib.Core.List.{[], _∷_};
 ghost use lib.Dec.{eqb};
 ghost use lib.ListN.{length};
-ghost use Rattle.base.specs.Answer.{saidCount, saidNumber16, saidNumber32, saidOutcome};
+ghost use Rattle.base.specs.Answer.{saidCount, saidNumber32, saidOutcome, saidTag};
 ghost use Rattle.base.specs.Error.{numbered};
 ghost use Rattle.base.specs.Said.{after, done};
 ghost use Rattle.frame.specs.Header.{framePrefix, frameWhole, isOfTwo, readFrameTag, readSize, readTag, setTag};
 use base::answer::Count;
-use base::answer::Number16;
 use base::answer::Number32;
 use base::answer::Outcome;
+use base::answer::Tag;
 use base::code::TpmSt;
 use base::error::TpmError;
 use base::field::be16;
@@ -18,51 +18,59 @@ use base::field::be32;
 use base::field::write_u16;
 use table::tag::tag_known;
 
+// The bytes of a header.
+pub(crate) const HEADER_SIZE: usize = 10;
+
+// The tags of a frame without sessions and of one with them.
+pub(crate) const PLAIN: u16 = 0x8001;
+
+pub(crate) const SESSIONS: u16 = 0x8002;
+
 // The refusal of bytes that have no whole header.
 pub(crate) fn short(len: usize) -> TpmError
     ensures { λ r. ⌜ numbered r ≡ 1 ∷ 0 ∷ 10 ∷ len ∷ [] ⌝ }
 {
     TpmError::UnexpectedEnd {
         offset: 0,
-        needed: 10,
+        needed: HEADER_SIZE,
         available: len,
     }
 }
 
 // The tag, one that TpmSt has.
-pub fn tag(s: &[u8]) -> Number16
-    ensures { λ r. ⌜ saidNumber16 r ≡ readTag (now (s .entry)) ⌝ }
+pub fn tag(s: &[u8]) -> Tag
+    ensures { λ r. ⌜ saidTag r ≡ readTag (now (s .entry)) ⌝ }
 {
-    if s.len() < 10 {
-        return Number16::Refused(short(s.len()));
+    if s.len() < HEADER_SIZE {
+        return Tag::Refused(short(s.len()));
     }
     let tag = TpmSt(be16(s[0], s[1]));
     if tag_known(tag) {
-        Number16::Is(tag.0)
+        Tag::Is(tag)
     } else {
-        Number16::Refused(tag.refused(0))
+        Tag::Refused(tag.refused(0))
     }
 }
 
 // The plain tag or the sessions tag.
-fn is_of_two(tag: u16) -> bool
-    ensures { λ r. ⌜ r ≡ isOfTwo tag ⌝ }
+fn is_of_two(tag: TpmSt) -> bool
+    ensures { λ r. ⌜ r ≡ isOfTwo (tag .0) ⌝ }
 {
-    tag == 0x8001 || tag == 0x8002
+    tag.0 == PLAIN || tag.0 == SESSIONS
 }
 
 // The tag of a frame, one of the two.
-pub(crate) fn frame_tag(s: &[u8]) -> Number16
-    ensures { λ r. ⌜ saidNumber16 r ≡ readFrameTag (now (s .entry)) ⌝ }
+pub(crate) fn frame_tag(s: &[u8]) -> Tag
+    ensures { λ r. ⌜ saidTag r ≡ readFrameTag (now (s .entry)) ⌝ }
 {
-    if s.len() < 10 {
-        return Number16::Refused(short(s.len()));
+    if s.len() < HEADER_SIZE {
+        return Tag::Refused(short(s.len()));
     }
     let tag = TpmSt(be16(s[0], s[1]));
-    if is_of_two(tag.0) {
-        Number16::Is(tag.0)
+    if is_of_two(tag) {
+        Tag::Is(tag)
     } else {
-        Number16::Refused(tag.refused(0))
+        Tag::Refused(tag.refused(0))
     }
 }
 
@@ -70,7 +78,7 @@ pub(crate) fn frame_tag(s: &[u8]) -> Number16
 pub fn size(s: &[u8]) -> Number32
     ensures { λ r. ⌜ saidNumber32 r ≡ readSize (now (s .entry)) ⌝ }
 {
-    if s.len() < 10 {
+    if s.len() < HEADER_SIZE {
         return Number32::Refused(short(s.len()));
     }
     Number32::Is(be32(s[2], s[3], s[4], s[5]))
@@ -81,7 +89,7 @@ pub fn set_tag(s: &mut [u8], tag: TpmSt) -> Outcome
     ensures answer { λ r. ⌜ saidOutcome r ≡ done (setTag (tag .0) (now (s .entry))) ⌝ }
     ensures bytes { λ r. ⌜ now (s .exit) ≡ after (now (s .entry)) (setTag (tag .0) (now (s .entry))) ⌝ }
 {
-    if s.len() < 10 {
+    if s.len() < HEADER_SIZE {
         return Outcome::Refused(short(s.len()));
     }
     if tag_known(tag) {
@@ -95,14 +103,14 @@ pub fn set_tag(s: &mut [u8], tag: TpmSt) -> Outcome
 pub(crate) fn frame_prefix(s: &[u8]) -> Count
     ensures { λ r. ⌜ saidCount r ≡ framePrefix (now (s .entry)) ⌝ }
 {
-    if s.len() < 10 {
+    if s.len() < HEADER_SIZE {
         return Count::Refused(short(s.len()));
     }
     let size = be32(s[2], s[3], s[4], s[5]) as usize;
-    if size < 10 {
+    if size < HEADER_SIZE {
         return Count::Refused(TpmError::UnexpectedEnd {
             offset: 2,
-            needed: 10,
+            needed: HEADER_SIZE,
             available: size,
         });
     }

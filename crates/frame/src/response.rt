@@ -3,7 +3,7 @@ ghost use mathlib.Core.Path.{_≡_};
 ghost use Prim.Native.Nat.{_≤_};
 ghost use borrow.Author.Needs.{needs};
 ghost use lib.ListN.{length};
-ghost use Rattle.base.specs.Answer.{saidNumber32, saidOutcome, saidRange};
+ghost use Rattle.base.specs.Answer.{saidOutcome, saidRange, saidResponseCode};
 ghost use Rattle.base.specs.Parts.{IsPart, Ties, behind, upTo};
 ghost use Rattle.base.specs.Said.{after, done};
 ghost use Rattle.table.specs.Dispatch.{dispatch};
@@ -14,6 +14,9 @@ use crate::areas::Areas;
 use crate::areas::Divided;
 use crate::areas::handle_area;
 use crate::areas::sized_area;
+use crate::header::HEADER_SIZE;
+use crate::header::PLAIN;
+use crate::header::SESSIONS;
 use crate::header::frame_prefix;
 use crate::header::frame_tag;
 use crate::header::frame_whole;
@@ -22,10 +25,10 @@ use crate::session::Entries;
 use crate::walk::Walked;
 use crate::walk::walk;
 use base::answer::Count;
-use base::answer::Number16;
-use base::answer::Number32;
 use base::answer::Outcome;
 use base::answer::Range;
+use base::answer::ResponseCode;
+use base::answer::Tag;
 use base::code::TpmCc;
 use base::code::TpmRc;
 use base::code::TpmSt;
@@ -60,19 +63,19 @@ pub enum ResponseRead {
 // ---- the code
 
 // The response code, one that reads. Success is what most responses say, and it reads.
-pub fn rc(s: &[u8]) -> Number32
-    ensures { λ r. ⌜ saidNumber32 r ≡ readRc (now (s .entry)) ⌝ }
+pub fn rc(s: &[u8]) -> ResponseCode
+    ensures { λ r. ⌜ saidResponseCode r ≡ readRc (now (s .entry)) ⌝ }
 {
-    if s.len() < 10 {
-        return Number32::Refused(short(s.len()));
+    if s.len() < HEADER_SIZE {
+        return ResponseCode::Refused(short(s.len()));
     }
     let rc = TpmRc(be32(s[6], s[7], s[8], s[9]));
     if rc.0 == 0 {
-        return Number32::Is(0);
+        return ResponseCode::Is(rc);
     }
     match read(rc) {
-        Answer::Code(_) => Number32::Is(rc.0),
-        Answer::Refused(_) => Number32::Refused(rc.refused(6)),
+        Answer::Code(_) => ResponseCode::Is(rc),
+        Answer::Refused(_) => ResponseCode::Refused(rc.refused(6)),
     }
 }
 
@@ -81,7 +84,7 @@ pub fn set_rc(s: &mut [u8], rc: TpmRc) -> Outcome
     ensures answer { λ r. ⌜ saidOutcome r ≡ done (setRc (rc .0) (now (s .entry))) ⌝ }
     ensures bytes { λ r. ⌜ now (s .exit) ≡ after (now (s .entry)) (setRc (rc .0) (now (s .entry))) ⌝ }
 {
-    if s.len() < 10 {
+    if s.len() < HEADER_SIZE {
         return Outcome::Refused(short(s.len()));
     }
     match read(rc) {
@@ -95,11 +98,11 @@ pub fn set_rc(s: &mut [u8], rc: TpmRc) -> Outcome
 pub fn body_range(s: &[u8]) -> Range
     ensures { λ r. ⌜ saidRange r ≡ bodyRange (now (s .entry)) ⌝ }
 {
-    if s.len() < 10 {
+    if s.len() < HEADER_SIZE {
         return Range::Refused(short(s.len()));
     }
     Range::Is {
-        from: 10,
+        from: HEADER_SIZE,
         to: s.len(),
     }
 }
@@ -120,20 +123,20 @@ pub fn body_mut(s: &mut [u8]) -> &mut [u8]
 // ---- casts
 
 // What is judged of a response behind its size: its code, where it passes.
-fn judge(s: &[u8]) -> Number32
-    ensures { λ r. ⌜ saidNumber32 r ≡ judgeResponse (now (s .entry)) ⌝ }
+fn judge(s: &[u8]) -> ResponseCode
+    ensures { λ r. ⌜ saidResponseCode r ≡ judgeResponse (now (s .entry)) ⌝ }
 {
     match frame_tag(s) {
-        Number16::Refused(e) => Number32::Refused(e),
-        Number16::Is(_) => rc(s),
+        Tag::Refused(e) => ResponseCode::Refused(e),
+        Tag::Is(_) => rc(s),
     }
 }
 
-fn cast_code(s: &[u8]) -> Number32
-    ensures { λ r. ⌜ saidNumber32 r ≡ castResponse (now (s .entry)) ⌝ }
+fn cast_code(s: &[u8]) -> ResponseCode
+    ensures { λ r. ⌜ saidResponseCode r ≡ castResponse (now (s .entry)) ⌝ }
 {
     match frame_whole(s) {
-        Count::Refused(e) => Number32::Refused(e),
+        Count::Refused(e) => ResponseCode::Refused(e),
         Count::Is(_) => judge(s),
     }
 }
@@ -142,8 +145,8 @@ pub fn cast_range(s: &[u8]) -> Range
     ensures { λ r. ⌜ saidRange r ≡ whole (now (s .entry)) (castResponse (now (s .entry))) ⌝ }
 {
     match cast_code(s) {
-        Number32::Refused(e) => Range::Refused(e),
-        Number32::Is(_) => Range::Is {
+        ResponseCode::Refused(e) => Range::Refused(e),
+        ResponseCode::Is(_) => Range::Is {
             from: 0,
             to: s.len(),
         },
@@ -170,8 +173,8 @@ pub fn cast_prefix_range(s: &[u8]) -> Range
     match frame_prefix(s) {
         Count::Refused(e) => Range::Refused(e),
         Count::Is(n) => match judge(&s[..n]) {
-            Number32::Refused(e) => Range::Refused(e),
-            Number32::Is(_) => Range::Is { from: 0, to: n },
+            ResponseCode::Refused(e) => Range::Refused(e),
+            ResponseCode::Is(_) => Range::Is { from: 0, to: n },
         },
     }
 }
@@ -219,8 +222,8 @@ fn success_areas(responses: u8, s: &[u8]) -> Divided
     match handle_area(responses, s) {
         Count::Refused(e) => Divided::Refused(e),
         Count::Is(handles) => {
-            let tag = be16(s[0], s[1]);
-            sized_area(tag == 0x8002, s.len(), s, handles)
+            let tag = TpmSt(be16(s[0], s[1]));
+            sized_area(tag.0 == SESSIONS, s.len(), s, handles)
         }
     }
 }
@@ -231,17 +234,17 @@ fn error_areas(s: &[u8]) -> Divided
     ensures { λ r. ⌜ saidAreas r ≡ errorAreas (now (s .entry)) ⌝ }
 {
     let tag = TpmSt(be16(s[0], s[1]));
-    if tag.0 == 0x8001 {
-        if 10 < s.len() {
+    if tag.0 == PLAIN {
+        if HEADER_SIZE < s.len() {
             return Divided::Refused(TpmError::TrailingData {
-                offset: 10,
-                actual: s.len() - 10,
+                offset: HEADER_SIZE,
+                actual: s.len() - HEADER_SIZE,
             });
         }
         Divided::Is(Areas {
-            handles: 10,
-            from: 10,
-            to: 10,
+            handles: HEADER_SIZE,
+            from: HEADER_SIZE,
+            to: HEADER_SIZE,
         })
     } else {
         Divided::Refused(tag.refused(0))
@@ -252,11 +255,11 @@ fn areas(cc: TpmCc, s: &[u8]) -> Divided
     ensures { λ r. ⌜ saidAreas r ≡ responseAreas dispatch (cc .0) (now (s .entry)) ⌝ }
 {
     match cast_code(s) {
-        Number32::Refused(e) => Divided::Refused(e),
-        Number32::Is(code) => match find(cc) {
+        ResponseCode::Refused(e) => Divided::Refused(e),
+        ResponseCode::Is(code) => match find(cc) {
             Found::Refused(e) => Divided::Refused(e),
             Found::Is(row) => {
-                if code == 0 {
+                if code.0 == 0 {
                     success_areas(row.responses, s)
                 } else {
                     error_areas(s)
@@ -266,15 +269,13 @@ fn areas(cc: TpmCc, s: &[u8]) -> Divided
     }
 }
 
+// Whether it passes: areas and walk stand in `parts` alone.
 pub fn validate(cc: TpmCc, s: &[u8]) -> Outcome
     ensures { λ r. ⌜ saidOutcome r ≡ done (readResponse dispatch (cc .0) (now (s .entry))) ⌝ }
 {
-    match areas(cc, s) {
-        Divided::Refused(e) => Outcome::Refused(e),
-        Divided::Is(a) => match walk(false, s, a.to) {
-            Walked::Refused(e) => Outcome::Refused(e),
-            Walked::Is(_) => Outcome::Done,
-        },
+    match parts(cc, s) {
+        ResponseRead::Refused(e) => Outcome::Refused(e),
+        ResponseRead::Is(_) => Outcome::Done,
     }
 }
 
@@ -290,7 +291,7 @@ pub fn parts(cc: TpmCc, s: &[u8]) -> ResponseRead
                 tag: TpmSt(be16(s[0], s[1])),
                 rc: TpmRc(be32(s[6], s[7], s[8], s[9])),
                 handles: Span {
-                    from: 10,
+                    from: HEADER_SIZE,
                     to: a.handles,
                 },
                 parameters: Span {

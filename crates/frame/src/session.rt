@@ -1,4 +1,10 @@
 // An entry of an authorization area by value: its nonce and its HMAC are told by where they stand.
+ghost use mathlib.Core.Path.{_≡_};
+ghost use mathlib.Core.List.{[]};
+ghost use Rattle.frame.specs.Walk.{byValue, none};
+
+// The most entries that an area has (Part 2, MAX_SESSION_NUM).
+pub(crate) const MAX_SESSIONS: usize = 3;
 
 // Bytes by their place and their count.
 pub struct Field {
@@ -14,10 +20,36 @@ pub struct Session {
     pub hmac: Field,
 }
 
+impl Session {
+    fn none() -> Self
+        ensures { λ r. ⌜ r ≡ none ⌝ }
+    {
+        Session {
+            handle: 0,
+            nonce: Field { at: 0, size: 0 },
+            attributes: 0,
+            hmac: Field { at: 0, size: 0 },
+        }
+    }
+}
+
 // How many entries an area has, and the first three.
 pub struct Entries {
     pub count: usize,
     pub first: Session,
     pub second: Session,
     pub third: Session,
+}
+
+impl Entries {
+    pub(crate) fn new() -> Self
+        ensures { λ r. ⌜ r ≡ byValue [] ⌝ }
+    {
+        Entries {
+            count: 0,
+            first: Session::none(),
+            second: Session::none(),
+            third: Session::none(),
+        }
+    }
 }

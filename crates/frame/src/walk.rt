@@ -1,11 +1,11 @@
 // The walk over the entries of an authorization area, one for commands and responses.
 ghost use mathlib.Core.Path.{_≡_};
-ghost use mathlib.Core.List.{[]};
 ghost use Rattle.base.specs.Answer.{saidNumber16};
 ghost use Rattle.frame.specs.Answer.{entriesByValue, handleWidth, saidEntered, saidWalked};
-ghost use Rattle.frame.specs.Walk.{byValue, none, readEntry, readSigned, readTpm2b, walk};
+ghost use Rattle.frame.specs.Walk.{readEntry, readSigned, readTpm2b, walk};
 use crate::session::Entries;
 use crate::session::Field;
+use crate::session::MAX_SESSIONS;
 use crate::session::Session;
 use base::answer::Number16;
 use base::answer::Number32;
@@ -13,12 +13,12 @@ use base::error::TpmError;
 use base::field::read_u16;
 use base::field::read_u32;
 
-pub enum Entered {
+pub(crate) enum Entered {
     Is(Session),
     Refused(TpmError),
 }
 
-pub enum Walked {
+pub(crate) enum Walked {
     Is(Entries),
     Refused(TpmError),
 }
@@ -91,32 +91,6 @@ fn entry(command: bool, s: &[u8], place: usize) -> Entered
     }
 }
 
-impl Session {
-    fn none() -> Self
-        ensures { λ r. ⌜ r ≡ none ⌝ }
-    {
-        Session {
-            handle: 0,
-            nonce: Field { at: 0, size: 0 },
-            attributes: 0,
-            hmac: Field { at: 0, size: 0 },
-        }
-    }
-}
-
-impl Entries {
-    fn new() -> Self
-        ensures { λ r. ⌜ r ≡ byValue [] ⌝ }
-    {
-        Entries {
-            count: 0,
-            first: Session::none(),
-            second: Session::none(),
-            third: Session::none(),
-        }
-    }
-}
-
 // The entries from a place of s to its end.
 pub(crate) fn walk(command: bool, s: &[u8], place: usize) -> Walked
     ensures { λ r. ⌜ saidWalked r ≡ entriesByValue (walk 3 (handleWidth command) (now (s .entry)) place) ⌝ }
@@ -124,11 +98,11 @@ pub(crate) fn walk(command: bool, s: &[u8], place: usize) -> Walked
     let mut found = Entries::new();
     let mut at = place;
     while at < s.len() {
-        if found.count == 3 {
+        if found.count == MAX_SESSIONS {
             return Walked::Refused(TpmError::TooManyItems {
                 offset: at,
-                limit: 3,
-                actual: 4,
+                limit: MAX_SESSIONS,
+                actual: MAX_SESSIONS + 1,
             });
         }
         match entry(command, s, at) {
@@ -145,7 +119,7 @@ pub(crate) fn walk(command: bool, s: &[u8], place: usize) -> Walked
                     found.second = e;
                     continue;
                 }
-                found.count = 3;
+                found.count = MAX_SESSIONS;
                 found.third = e;
             }
         }

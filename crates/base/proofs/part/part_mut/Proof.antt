@@ -21,13 +21,13 @@ use prog.Wp.{Heap, Calls, Loops, WpFn, Tables}
 use ghost.Atoms.{Atoms, sem}
 use contract.Monad.{Fun, fact}
 use contract.Running.{givenOf, tables, tablesOf}
-use types.Kit.{Given, ‵, raw, _⊛_, ⋆, some, later, _$_, _∵_, !, qed, by, move, keep, drop, use0, use1, use2, use3, rewrite, split, join, pick, fsplit, fjoin, suffices, frame, await, updating, done}
+use types.Kit.{Given, ‵, raw, _⊛_, ⋆, some, later, _$_, _∵_, !, qed, by, move, keep, drop, use1, use3, rewrite, split, join, pick, fsplit, fjoin, suffices, frame, await, updating, done}
 use types.Run.{look, init, forget, stop, hop, fld, from, load, addr, bin, of-opd, and-then, no-more, assigns, land, returns, enter, alloc1, alloc0, params1, pass1, pass0, free1, free0}
 use types.Part.{agg, whole, sub, look-in}
 use types.Hole.{here}
 use sound.WpLaws.{FmC, fmOf, WpFn-mono}
 use denote.RattleType.{owns}
-use denote.Shadow.{pureL, pureI}
+use denote.Shadow.{pureI}
 use denote.Memory.{mem}
 use denote.Lend.{Held}
 use denote.Laws.{Is, shows}

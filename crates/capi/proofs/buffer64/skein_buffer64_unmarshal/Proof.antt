@@ -1,14 +1,8 @@
 -- `capi::buffer64::skein_buffer64_unmarshal` meets its contract: it reports and lays down what `unmarshal` gave.
 -- Assumes nothing.
-use mathlib.Core.Path.{ap}
-use denote.Ref.{now}
 use Rattle.base.specs.Answer.{saidCount}
 use Rattle.base.proofs.Answers.{learnt}
-use Rattle.buffer.specs.Fixed.{roomAfter}
-use Rattle.buffer.proofs.Rooms.{read-refused}
-use Rattle.capi.specs.Buffer.{sizeAndWire}
-use Rattle.capi.proofs.Laid.{size-read, room-read}
-use Rattle.capi.proofs.Reported.{answered, refused}
+use Rattle.capi.proofs.Laid.{unread, read-in}
 use borrow.Author.Needs.{needs}
 use Rattle.capi.proofs.buffer64.skein_buffer64_unmarshal.Statement.{statement}
 use Rattle.capi.proofs.buffer64.skein_buffer64_unmarshal.Tie as tie
@@ -35,17 +29,12 @@ element-write-out-2 : tie.Need-element-write-out-2
 element-write-out-2 c = search needs
 
 returns : tie.Need-returns
-returns c =
-    let a = c .before .before .before .before .before .before .before .args in
-    let read = learnt saidCount (c .before .before .before .answer .given .1) (c .before .before .before .before .before .unmarshal .ensures .0) in
-    (refused sizeAndWire _ _ _ _ _ read (c .refuse .ensures), ap (roomAfter (now (a .«data»))) (read-refused 64 (now (a .s)) read))
+returns c = unread 64 _ _ _ _ _ _ (learnt saidCount (c .before .before .before .answer .given .1) (c .before .before .before .before .before .unmarshal .ensures .0)) (c .refuse .ensures)
 
 returns-2 : tie.Need-returns-2
 returns-2 c =
-    let a = c .before .before .before .before .before .before .before .before .args in
     let made = c .before .before .before .before .before .before .unmarshal .ensures in
-    let read = learnt saidCount (c .before .before .before .before .answer2 .given .1) (made .0) in
-    (rw (size-read 64 (now (a .s)) _ _ read (made .1)) (answered sizeAndWire _ _ _ read), room-read 64 (now (a .s)) _ _ _ read (made .1))
+    read-in 64 _ _ _ _ _ (learnt saidCount (c .before .before .before .before .answer2 .given .1) (made .0)) (made .1)
 
 pub skein-buffer64-unmarshal-spec : {M : Type 1} → statement M
 skein-buffer64-unmarshal-spec =

@@ -8,11 +8,11 @@ use Rattle.capi.proofs.header.skein_frame_tag.Tie as tie
 tag-requires : tie.Need-tag-requires
 tag-requires c κs = search needs
 
-number16-requires : tie.Need-number16-requires
-number16-requires c κs = search needs
+tag-requires-2 : tie.Need-tag-requires-2
+tag-requires-2 c κs = search needs
 
 returns : tie.Need-returns
-returns c = as-said (c .before .before .tag .ensures) (c .number16 .ensures)
+returns c = as-said (c .before .before .tag .ensures) (c .tag2 .ensures)
 
 pub skein-frame-tag-spec : {M : Type 1} → statement M
-skein-frame-tag-spec = tie.close (tie.spec tag-requires number16-requires returns)
+skein-frame-tag-spec = tie.close (tie.spec tag-requires tag-requires-2 returns)

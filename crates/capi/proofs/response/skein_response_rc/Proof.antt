@@ -8,11 +8,11 @@ use Rattle.capi.proofs.response.skein_response_rc.Tie as tie
 rc-requires : tie.Need-rc-requires
 rc-requires c κs = search needs
 
-number32-requires : tie.Need-number32-requires
-number32-requires c κs = search needs
+response-code-requires : tie.Need-response-code-requires
+response-code-requires c κs = search needs
 
 returns : tie.Need-returns
-returns c = as-said (c .before .before .rc .ensures) (c .number32 .ensures)
+returns c = as-said (c .before .before .rc .ensures) (c .response-code .ensures)
 
 pub skein-response-rc-spec : {M : Type 1} → statement M
-skein-response-rc-spec = tie.close (tie.spec rc-requires number32-requires returns)
+skein-response-rc-spec = tie.close (tie.spec rc-requires response-code-requires returns)

@@ -4,7 +4,7 @@ use mathlib.Core.Path.{_∙_}
 use denote.Ref.{now}
 use Rattle.frame.specs.Header.{readFrameTag}
 use Rattle.frame.specs.Command.{commandHandles, commandAreas, judgeCommand}
-use Rattle.base.specs.Answer.{saidCount, saidNumber16}
+use Rattle.base.specs.Answer.{saidCount, saidTag}
 use Rattle.table.specs.Dispatch.{dispatch, commandCodes}
 use Rattle.base.proofs.Answers.{learnt}
 use Rattle.base.proofs.Checks.{goes-on, stops}
@@ -36,20 +36,22 @@ sized-area-requires c κs = search needs
 
 returns : tie.Need-returns
 unfolding judgeCommand
-returns c = stops (readFrameTag (now (c .before .before .before .before .before .args .s))) _ (learnt saidNumber16 (c .before .e .given .1) (c .before .before .before .frame-tag .ensures))
+returns c = stops (readFrameTag (now (c .before .before .before .before .before .args .s))) _ (learnt saidTag (c .before .e .given .1) (c .before .before .before .frame-tag .ensures))
 
 returns-2 : tie.Need-returns-2
 unfolding judgeCommand commandAreas
 returns-2 c =
     let s = now (c .before .before .before .before .before .before .before .before .before .args .s) in
     stops (commandHandles dispatch commandCodes s) _ (learnt saidCount (c .before .e2 .given .1) (c .before .before .before .handles-end .ensures))
-    ∙ goes-on (readFrameTag s) _ (learnt saidNumber16 (c .before .before .before .before .before .tag .given .1) (c .before .before .before .before .before .before .before .frame-tag .ensures))
+    ∙ goes-on (readFrameTag s) _ (learnt saidTag (c .before .before .before .before .before .tag .given .1) (c .before .before .before .before .before .before .before .frame-tag .ensures))
 
 returns-3 : tie.Need-returns-3
 returns-3 c =
-    let s = now (c .before .before .before .before .before .before .before .before .before .before .args .s) in
+    let handled = c .before .before .before .before .before in
+    let tagged = handled .before .before .before .before in
+    let s = now (tagged .before .before .args .s) in
     c .sized-area .ensures
-    ∙ judged-sized dispatch commandCodes s (learnt saidNumber16 (c .before .before .before .before .before .before .tag .given .1) (c .before .before .before .before .before .before .before .before .frame-tag .ensures)) (learnt saidCount (c .before .before .handles .given .1) (c .before .before .before .before .handles-end .ensures))
+    ∙ judged-sized dispatch commandCodes s (learnt saidTag (handled .before .before .tag .given .1) (tagged .frame-tag .ensures)) (learnt saidCount (c .before .before .before .handles .given .1) (handled .handles-end .ensures))
 
 pub judge-spec : {M : Type 1} → statement M
 judge-spec =

@@ -1,6 +1,6 @@
 -- `frame::command::parts` meets its contract: it goes by what the areas and the walk said; tag and code are read byte by byte.
 -- Assumes nothing.
-use Rattle.frame.proofs.Divisions.{commandEntries, areas-refused, walk-refused, walk-read, command-by-value, cast-fits}
+use Rattle.frame.proofs.Divisions.{commandEntries, areas-refused, walk-refused, walk-read, by-value, cast-fits}
 use mathlib.Core.Path.{ap, _∙_, sym}
 use denote.Ref.{now}
 use Rattle.frame.specs.Answer.{saidAreas, saidWalked}
@@ -9,7 +9,7 @@ use Rattle.frame.specs.Command.{castCommand, readCommand}
 use Rattle.base.proofs.Answers.{learnt}
 use lib.Seq.{length-take-le}
 use native.Mathlib.Omega.{arith}
-use Rattle.frame.specs.Answer.{commandByValue}
+use Rattle.frame.specs.Answer.{commandOf, commandByValue}
 use Rattle.frame.proofs.Headers.{tag-bytes, code-bytes}
 use borrow.Author.Needs.{needs}
 use Rattle.frame.proofs.command.parts.Statement.{statement}
@@ -78,7 +78,7 @@ returns-3 c =
     let s = now (c .before .before .before .before .before .before .before .before .before .before .before .before .before .before .before .before .before .before .args .s) in
     let ten = cast-fits dispatch commandCodes (now (c .before .before .before .before .before .before .before .before .before .before .before .before .before .before .before .before .before .before .args .s)) (learnt saidAreas (c .before .before .before .before .before .before .before .before .before .before .before .before .before .before .a .given .1) (c .before .before .before .before .before .before .before .before .before .before .before .before .before .before .before .before .cast-areas .ensures)) .0 in
     let read = walk-read (castCommand dispatch commandCodes s) (commandEntries s) (learnt saidAreas (c .before .before .before .before .before .before .before .before .before .before .before .before .before .before .a .given .1) (c .before .before .before .before .before .before .before .before .before .before .before .before .before .before .before .before .cast-areas .ensures)) (learnt saidWalked (c .before .before .before .before .before .before .before .before .before .entries .given .1) (c .before .before .before .before .before .before .before .before .before .before .before .walk .ensures)) in
-    command-by-value s _ (read .2) (c .before .before .before .before .before .be16 .ensures ∙ tag-bytes s ten) (c .be32 .ensures ∙ code-bytes s ten) (read .1)
+    by-value commandOf s _ (read .2) (c .before .before .before .before .before .be16 .ensures ∙ tag-bytes s ten) (c .be32 .ensures ∙ code-bytes s ten) (read .1)
 
 pub parts-spec : {M : Type 1} → statement M
 parts-spec =

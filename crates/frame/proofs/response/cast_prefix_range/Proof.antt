@@ -6,7 +6,7 @@ use lib.ListN.{take}
 use lib.Seq.{length-take-le}
 use Rattle.frame.specs.Header.{framePrefix}
 use Rattle.frame.specs.Response.{judgeResponse, castResponsePrefix}
-use Rattle.base.specs.Answer.{saidCount, saidNumber32}
+use Rattle.base.specs.Answer.{saidCount, saidResponseCode}
 use Rattle.base.specs.Parts.{upTo}
 use Rattle.base.proofs.Answers.{learnt}
 use Rattle.base.proofs.Checks.{goes-on, stops}
@@ -45,7 +45,7 @@ unfolding castResponsePrefix
 returns-2 c =
     let s = now (c .before .before .before .before .before .before .before .before .before .before .args .s) in
     ap upTo
-    (stops (judgeResponse (take (c .before .before .before .before .before .before .n .given .0 .0) s)) _ (learnt saidNumber32 (c .before .e2 .given .1) (c .before .before .before .judge .ensures))
+    (stops (judgeResponse (take (c .before .before .before .before .before .before .n .given .0 .0) s)) _ (learnt saidResponseCode (c .before .e2 .given .1) (c .before .before .before .judge .ensures))
     ∙ goes-on (framePrefix s) _ (learnt saidCount (c .before .before .before .before .before .before .n .given .1) (c .before .before .before .before .before .before .before .before .frame-prefix .ensures)))
 
 returns-3 : tie.Need-returns-3
@@ -53,7 +53,7 @@ unfolding castResponsePrefix
 returns-3 c =
     let s = now (c .before .before .before .before .before .before .before .before .before .args .s) in
     ap upTo
-    (goes-on (judgeResponse (take (c .before .before .before .before .before .n .given .0 .0) s)) _ (learnt saidNumber32 (c .enum-told .given .1) (c .before .before .judge .ensures))
+    (goes-on (judgeResponse (take (c .before .before .before .before .before .n .given .0 .0) s)) _ (learnt saidResponseCode (c .enum-told .given .1) (c .before .before .judge .ensures))
     ∙ goes-on (framePrefix s) _ (learnt saidCount (c .before .before .before .before .before .n .given .1) (c .before .before .before .before .before .before .before .frame-prefix .ensures)))
 
 pub cast-prefix-range-spec : {M : Type 1} → statement M

@@ -4,7 +4,7 @@ use mathlib.Core.Path.{_∙_}
 use denote.Ref.{now}
 use Rattle.frame.specs.Header.{readFrameTag}
 use Rattle.frame.specs.Response.{judgeResponse}
-use Rattle.base.specs.Answer.{saidNumber16}
+use Rattle.base.specs.Answer.{saidTag}
 use Rattle.base.proofs.Answers.{learnt}
 use Rattle.base.proofs.Checks.{goes-on, stops}
 use borrow.Author.Needs.{needs}
@@ -25,11 +25,11 @@ rc-requires c κs = search needs
 
 returns : tie.Need-returns
 unfolding judgeResponse
-returns c = stops (readFrameTag (now (c .before .before .before .before .before .args .s))) _ (learnt saidNumber16 (c .before .e .given .1) (c .before .before .before .frame-tag .ensures))
+returns c = stops (readFrameTag (now (c .before .before .before .before .before .args .s))) _ (learnt saidTag (c .before .e .given .1) (c .before .before .before .frame-tag .ensures))
 
 returns-2 : tie.Need-returns-2
 unfolding judgeResponse
-returns-2 c = c .rc .ensures ∙ goes-on (readFrameTag (now (c .before .before .before .before .before .args .s))) _ (learnt saidNumber16 (c .before .enum-told .given .1) (c .before .before .before .frame-tag .ensures))
+returns-2 c = c .rc .ensures ∙ goes-on (readFrameTag (now (c .before .before .before .before .before .args .s))) _ (learnt saidTag (c .before .enum-told .given .1) (c .before .before .before .frame-tag .ensures))
 
 pub judge-spec : {M : Type 1} → statement M
 judge-spec =

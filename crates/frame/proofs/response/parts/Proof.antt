@@ -1,6 +1,6 @@
 -- `frame::response::parts` meets its contract: it goes by what the areas and the walk said; tag and code are read byte by byte.
 -- Assumes nothing.
-use Rattle.frame.proofs.Divisions.{responseEntries, areas-refused, walk-refused, walk-read, response-by-value, read-header}
+use Rattle.frame.proofs.Divisions.{responseEntries, areas-refused, walk-refused, walk-read, by-value, read-header}
 use mathlib.Core.Path.{ap, _∙_}
 use denote.Ref.{now}
 use Rattle.frame.specs.Answer.{saidAreas, saidWalked}
@@ -8,7 +8,7 @@ use Rattle.table.specs.Dispatch.{dispatch}
 use Rattle.frame.specs.Response.{responseAreas, readResponse}
 use Rattle.base.proofs.Answers.{learnt}
 use native.Mathlib.Omega.{arith}
-use Rattle.frame.specs.Answer.{responseByValue}
+use Rattle.frame.specs.Answer.{responseOf, responseByValue}
 use Rattle.frame.proofs.Headers.{tag-bytes, code-bytes}
 use borrow.Author.Needs.{needs}
 use Rattle.frame.proofs.response.parts.Statement.{statement}
@@ -74,7 +74,7 @@ returns-3 c =
     let s = now (c .before .before .before .before .before .before .before .before .before .before .before .before .before .before .before .before .before .args .s) in
     let ten = read-header dispatch _ (now (c .before .before .before .before .before .before .before .before .before .before .before .before .before .before .before .before .before .args .s)) (learnt saidAreas (c .before .before .before .before .before .before .before .before .before .before .before .before .before .a .given .1) (c .before .before .before .before .before .before .before .before .before .before .before .before .before .before .before .areas .ensures)) in
     let read = walk-read (responseAreas dispatch _ s) (responseEntries s) (learnt saidAreas (c .before .before .before .before .before .before .before .before .before .before .before .before .before .a .given .1) (c .before .before .before .before .before .before .before .before .before .before .before .before .before .before .before .areas .ensures)) (learnt saidWalked (c .before .before .before .before .before .before .before .before .before .entries .given .1) (c .before .before .before .before .before .before .before .before .before .before .before .walk .ensures)) in
-    response-by-value s _ (read .2) (c .before .before .before .before .before .be16 .ensures ∙ tag-bytes s ten) (c .be32 .ensures ∙ code-bytes s ten) (read .1)
+    by-value responseOf s _ (read .2) (c .before .before .before .before .before .be16 .ensures ∙ tag-bytes s ten) (c .be32 .ensures ∙ code-bytes s ten) (read .1)
 
 pub parts-spec : {M : Type 1} → statement M
 parts-spec =

@@ -37,7 +37,7 @@ returns-2 : tie.Need-returns-2
 returns-2 c =
     let s = now (c .before .before .before .before .before .before .before .before .before .args .s) in
     let ten = c .before .before .before .before .before .before .before .if1 .left in
-    success-read s (sym (c .if2 .taken) ∙ c .before .before .be32 .ensures ∙ code-bytes s ten) ten
+    success-read s _ (c .before .before .be32 .ensures ∙ code-bytes s ten) ten (c .if2 .taken)
 
 read-requires : tie.Need-read-requires
 read-requires c κs = search needs

@@ -44,10 +44,12 @@ returns c = stops (handleArea _ (now (c .before .before .before .before .before 
 returns-2 : tie.Need-returns-2
 unfolding successAreas
 returns-2 c =
-    let s = now (c .before .before .before .before .before .before .before .before .before .args .s) in
+    let handled = c .before .before .before .before .before .before in
+    let asked = handled .before .before in
+    let s = now (asked .before .before .args .s) in
     c .sized-area .ensures
-    ∙ ap (λ (tag : ℕ). sizedArea (eqb tag sessions) (length s) s (c .before .before .before .before .before .handles .given .0 .0)) (c .before .be16 .ensures ∙ tag-bytes s (c .before .before .before .before .before .before .before .before .before .pre))
-    ∙ goes-on (handleArea _ s) _ (learnt saidCount (c .before .before .before .before .before .handles .given .1) (c .before .before .before .before .before .before .before .handle-area .ensures))
+    ∙ ap (λ (tag : ℕ). sizedArea (eqb tag sessions) (length s) s (handled .handles .given .0 .0)) (c .before .before .be16 .ensures ∙ tag-bytes s (asked .before .before .pre))
+    ∙ goes-on (handleArea _ s) _ (learnt saidCount (handled .handles .given .1) (asked .handle-area .ensures))
 
 pub success-areas-spec : {M : Type 1} → statement M
 success-areas-spec =

@@ -29,6 +29,9 @@ loop-holds c =
     let a = c .before .before .args in
     rw (c .new .ensures) (none-found (handleWidth (a .command)) (now (a .s)) (a .place))
 
+add-t10 : tie.Need-add-t10 Inv-loop μ-loop
+add-t10 c = search needs
+
 returns : tie.Need-returns Inv-loop μ-loop
 returns c =
     let turn = c .before .before in
@@ -103,6 +106,7 @@ walk-spec =
     μ-loop
     new-requires
     loop-holds
+    add-t10
     returns
     entry-requires
     enum-known-e
