@@ -6,6 +6,9 @@ here=$(CDPATH='' cd -- "$(dirname -- "$0")" && pwd -P)
 root=$(dirname -- "$here")
 compare=$root/compare
 work=$root/target/$(basename -- "$here")
+# what all of them use: the folder proved with the library, and the folder oracle with the crate
+made=$root/target/compare
+mkdir -p "$work"
 
 fail() {
     echo "$(basename -- "$here"): $*" >&2
@@ -70,15 +73,25 @@ shadow_kit() { # SHADOW
 build_library() { # DIR
     case $(uname -m) in
     x86_64) (cd "$1" && rt staticlib capi) ;;
-    aarch64) shadow_kit "$work/kit" && (cd "$1" && RATTLE_HOME=$work/kit rt staticlib capi) ;;
+    aarch64) shadow_kit "$1/kit" && (cd "$1" && RATTLE_HOME=$1/kit rt staticlib capi) ;;
     *) echo "a library can be made for x86_64 and aarch64, not for $(uname -m)" && false ;;
     esac >"$1/build.log" 2>&1
 }
 
-# Copies, proves and compiles what is to be measured or compared.
+# Tells whether the library in DIR was made by this kit, of the crates as they are.
+is_made() { # DIR
+    [ -f "$1/made-by" ] && rt version | cmp -s - "$1/made-by" && cmp -s "$root/crates.txt" "$1/crates.txt" &&
+        diff -r "$root/crates" "$1/crates" >/dev/null
+}
+
+# Copies, proves and compiles what is to be measured or compared. What is there already stays; `rt ci` removes it.
 make_library() { # DIR
+    if is_made "$1"; then return; fi
     copy_crates "$1"
-    if build_library "$1"; then return; fi
+    if build_library "$1"; then
+        rt version >"$1/made-by"
+        return
+    fi
     cat "$1/build.log"
     fail "there is no proved library"
 }
@@ -89,9 +102,9 @@ make_library() { # DIR
 build_oracle() {
     oracle=''
     status=0
-    said=$("$compare/oracle/build" "$work/oracle" 2>&1) || status=$?
+    said=$("$compare/oracle/build" "$made/oracle" 2>&1) || status=$?
     case $status in
-    0) oracle=$work/oracle/libtpm2_protocol.rlib ;;
+    0) oracle=$made/oracle/libtpm2_protocol.rlib ;;
     3) said="the comparison with tpm2-protocol is skipped: $said" ;;
     *) fail "$said" ;;
     esac

@@ -48,8 +48,8 @@ impl fmt::Display for Field {
 impl Case for Field {
     const JUDGES: &'static [Judge<Self>] = &[
         #[cfg(oracle)]
-        Judge { name: "tpm2-protocol", says: by_crate },
-        Judge { name: "be_bytes", says: by_rust },
+        Judge::tpm2_protocol(by_crate),
+        Judge::document_01(by_document),
     ];
 
     fn preset(&self, answer: &mut Answer) {
@@ -68,8 +68,8 @@ impl Case for Field {
     }
 }
 
-/// Rust's own conversions, and document 01's refusals at a place. It speaks about every input.
-fn by_rust(case: &Field, answer: &mut Answer) -> bool {
+/// Document 01's refusals at a place, and else Rust's own conversions. It speaks about every input.
+fn by_document(case: &Field, answer: &mut Answer) -> bool {
     let Call { width, writes, .. } = *case.call;
     let left = case.bytes.len().saturating_sub(case.place);
     if left < width {

@@ -91,8 +91,8 @@ where
 {
     const JUDGES: &'static [Judge<Self>] = &[
         #[cfg(oracle)]
-        Judge { name: "tpm2-protocol", says: by_crate },
-        Judge { name: "document 01", says: by_document },
+        Judge::tpm2_protocol(by_crate),
+        Judge::document_01(by_document),
     ];
 
     fn preset(&self, answer: &mut Answer) {

@@ -7,7 +7,7 @@
 mod call;
 mod desk;
 mod inputs;
-mod known;
+pub mod known;
 #[cfg(oracle)]
 mod limit;
 mod listed;
@@ -47,8 +47,8 @@ impl fmt::Display for Frame {
 impl Case for Frame {
     const JUDGES: &'static [Judge<Self>] = &[
         #[cfg(oracle)]
-        Judge { name: "tpm2-protocol", says: by_crate },
-        Judge { name: "document 01", says: by_document },
+        Judge::tpm2_protocol(by_crate),
+        Judge::document_01(by_document),
     ];
 
     fn preset(&self, answer: &mut Answer) {

@@ -5,7 +5,13 @@
 //! between two calls that agree.
 
 use crate::answer::{Answer, Hex};
-use std::fmt::Display;
+use std::fmt::{self, Display};
+use std::ops::AddAssign;
+use std::sync::atomic::{AtomicU64, Ordering};
+
+/// The names of the judges.
+pub const CRATE: &str = "tpm2-protocol";
+pub const RULES: &str = "document 01";
 
 /// A call with its input. It is displayed as on the fixed list: the call's name, then what it is given.
 pub trait Case: Clone + Display + 'static {
@@ -24,21 +30,72 @@ pub trait Case: Clone + Display + 'static {
 
 /// Someone who knows the right answer.
 pub struct Judge<C> {
-    pub name: &'static str,
-    /// Turns the preset answer into the right one; false where this judge cannot be asked about the input.
-    pub says: fn(&C, &mut Answer) -> bool,
+    name: &'static str,
+    says: Says<C>,
+}
+
+/// Turns the preset answer into the right one; false where this judge cannot be asked about the input.
+pub type Says<C> = fn(&C, &mut Answer) -> bool;
+
+impl<C> Judge<C> {
+    /// The crate.
+    pub const fn tpm2_protocol(says: Says<C>) -> Self {
+        Self { name: CRATE, says }
+    }
+
+    /// Document 01's rules, written out a second time.
+    pub const fn document_01(says: Says<C>) -> Self {
+        Self { name: RULES, says }
+    }
 }
 
 /// Mismatches of one call that are printed; the rest are only counted.
 pub const PRINTED: u64 = 5;
+
+/// How often a judge spoke, and how often against us.
+struct Voice {
+    judge: &'static str,
+    spoke: u64,
+    against: u64,
+}
+
+/// What some calls came to.
+#[derive(Clone, Copy, Default)]
+pub struct Count {
+    pub calls: u64,
+    /// The calls that the crate judged, alone or with document 01's rules beside it. The others were judged by those
+    /// rules alone.
+    by_crate: u64,
+    pub mismatches: u64,
+    /// Answers that the crate contradicts, and that another judge does.
+    pub against_crate: u64,
+    pub against_rules: u64,
+}
+
+impl AddAssign for Count {
+    fn add_assign(&mut self, more: Self) {
+        self.calls += more.calls;
+        self.by_crate += more.by_crate;
+        self.mismatches += more.mismatches;
+        self.against_crate += more.against_crate;
+        self.against_rules += more.against_rules;
+    }
+}
+
+impl Display for Count {
+    fn fmt(&self, f: &mut fmt::Formatter) -> fmt::Result {
+        write!(f, "{} calls, {} mismatches: ", self.calls, self.mismatches)?;
+        write!(f, "{} judged by {CRATE}, {} by {RULES} alone", self.by_crate, self.calls - self.by_crate)
+    }
+}
 
 /// The count of one call.
 pub struct Tally {
     name: String,
     calls: u64,
     mismatches: u64,
-    /// How often each judge spoke.
-    spoke: Vec<(&'static str, u64)>,
+    /// One for each judge, in their order.
+    voices: Vec<Voice>,
     ours: Answer,
     theirs: Answer,
 }
@@ -49,7 +106,7 @@ impl Tally {
             name: name.into(),
             calls: 0,
             mismatches: 0,
-            spoke: C::JUDGES.iter().map(|judge| (judge.name, 0)).collect(),
+            voices: C::JUDGES.iter().map(|judge| Voice { judge: judge.name, spoke: 0, against: 0 }).collect(),
             ours: Answer::new(),
             theirs: Answer::new(),
         }
@@ -59,23 +116,39 @@ impl Tally {
         self.calls
     }
 
-    pub fn mismatches(&self) -> u64 {
-        self.mismatches
+    pub fn count(&self) -> Count {
+        let mut count = Count { calls: self.calls, mismatches: self.mismatches, ..Count::default() };
+        for voice in &self.voices {
+            if voice.judge == CRATE {
+                count.by_crate += voice.spoke;
+                count.against_crate += voice.against;
+            } else {
+                count.against_rules += voice.against;
+            }
+        }
+        count
     }
 
-    /// Makes the call once and holds it to every judge that speaks. It counts as one mismatch, whoever contradicts.
+    /// Makes the call once and holds it to every judge that speaks. It counts as one mismatch, whoever contradicts, and
+    /// is reported beside the first that does.
     pub fn check<C: Case>(&mut self, case: &C) {
         self.calls += 1;
         self.ask_ours(case);
+        let (mut judged, mut first) = (false, None);
         for (i, judge) in C::JUDGES.iter().enumerate() {
             if !self.ask(judge, case) {
                 continue;
             }
-            self.spoke[i].1 += 1;
+            judged = true;
+            self.voices[i].spoke += 1;
             if self.ours != self.theirs {
-                self.mismatch(case, judge);
-                return;
+                self.voices[i].against += 1;
+                first = first.or(Some(judge));
             }
+        }
+        assert!(judged, "nobody judges {case}");
+        if let Some(judge) = first {
+            self.mismatch(case, judge);
         }
     }
 
@@ -83,12 +156,24 @@ impl Tally {
     pub fn add(&mut self, calls: u64, mismatches: u64) {
         self.calls += calls;
         self.mismatches += mismatches;
-        self.spoke[0].1 += calls;
+        self.voices[0].spoke += calls;
+        self.voices[0].against += mismatches;
     }
 
-    /// Counts a mismatch that shows in the calls as a whole, and in none of them alone.
+    /// Adds what another thread counted of the same call.
+    pub fn merge(&mut self, other: &Self) {
+        self.calls += other.calls;
+        self.mismatches += other.mismatches;
+        for (mine, more) in self.voices.iter_mut().zip(&other.voices) {
+            mine.spoke += more.spoke;
+            mine.against += more.against;
+        }
+    }
+
+    /// Counts a mismatch that shows in the calls as a whole and in none of them alone, as one of the first judge's.
     pub fn differs_in_all(&mut self, how: &str) {
         self.mismatches += 1;
+        self.voices[0].against += 1;
         println!("mismatch: {}: {how}", self.name);
     }
 
@@ -112,7 +197,11 @@ impl Tally {
         if self.mismatches > PRINTED {
             return;
         }
+        // no other thread prints amid the report
+        let _whole = std::io::stdout().lock();
         println!("mismatch: {} against {}", self.name, judge.name);
+        // brings both answers back: other judges were asked since
+        self.differs(case, judge);
         self.show("input", case, judge);
         let shrunk = self.shrunk(case, judge);
         // leaves both answers to the shrunk input in place
@@ -143,24 +232,34 @@ impl Tally {
 }
 
 impl Display for Tally {
-    fn fmt(&self, f: &mut std::fmt::Formatter) -> std::fmt::Result {
-        write!(f, "{}: {} calls, {} mismatches", self.name, self.calls, self.mismatches)?;
-        self.spoke.iter().try_for_each(|(judge, times)| write!(f, ", {times} judged by {judge}"))
+    fn fmt(&self, f: &mut fmt::Formatter) -> fmt::Result {
+        write!(f, "{}: {}", self.name, self.count())
     }
 }
+
+/// Lines of the fixed list, and those among them whose answer is the crate's.
+static LISTED: [AtomicU64; 2] = [const { AtomicU64::new(0) }; 2];
 
 /// Prints a case with the answer of its first judge that speaks, and the later bytes of its first slice if it writes:
 /// one line of the fixed list. Where no judge is at hand there is no line.
 pub fn list<C: Case>(case: &C, writes: bool) {
     let mut answer = Answer::new();
-    let speaks = |judge: &Judge<C>| {
+    let speaks = |judge: &&Judge<C>| {
         case.preset(&mut answer);
         (judge.says)(case, &mut answer)
     };
-    if !C::JUDGES.iter().any(speaks) {
+    let Some(judge) = C::JUDGES.iter().find(speaks) else {
         return;
-    }
+    };
+    LISTED[0].fetch_add(1, Ordering::Relaxed);
+    LISTED[1].fetch_add((judge.name == CRATE).into(), Ordering::Relaxed);
     let values: String = answer.values().map(|value| format!(" {value}")).collect();
     let later = if writes { format!(" ; {}", Hex(answer.bytes(0))) } else { String::new() };
     println!("{case} = {}{values}{later}", answer.said.number());
+}
+
+/// How many lines were listed, and whose answers they are.
+pub fn listed() -> String {
+    let [lines, by_crate] = LISTED.each_ref().map(|count| count.load(Ordering::Relaxed));
+    format!("{lines} lines: {by_crate} answers of {CRATE}, {} of {RULES} alone", lines - by_crate)
 }

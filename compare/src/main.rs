@@ -1,10 +1,11 @@
-//! Compares the calls of the proved library with Rust's own conversions, with document 01's rules written out, and,
+//! Compares the calls of the proved library with document 01's rules written out, among them Rust's own conversions, and,
 //! compiled with `--cfg oracle`, with the crate tpm2-protocol.
 //!
 //! usage: driver [--seed N] [--thin] [SUITE..]
 //!                                        compares; the status is 1 if anything differs. Thinned, it leaves out most of
 //!                                        the calls where there are billions: for a library known to be wrong, or one
-//!                                        that an emulator runs
+//!                                        that an emulator runs. A line `verdict: WHOSE: passed|FAILED|skipped` tells
+//!                                        what came of document 01, of the crate and of recorded traffic
 //!        driver --list                   prints the fixed list of calls with the judges' answers, one a line, for a
 //!                                        replay on machines without Rust: `NAME BYTES PLACE N = NUMBER VALUES`, and
 //!                                        for a call that writes ` ; LATER-BYTES`
@@ -27,7 +28,7 @@ mod shrink;
 mod traffic;
 mod view;
 
-use judge::Tally;
+use judge::{Count, Tally};
 use random::Random;
 use std::process::ExitCode;
 
@@ -45,8 +46,11 @@ static SUITES: [Suite; 6] = [
     Suite { name: "view", run: |random, _| view::run(random), list: view::list },
     Suite { name: "fixed", run: |random, _| fixed::run(random), list: |_| () },
     Suite { name: "frame", run: frame::run, list: frame::list },
-    Suite { name: "traffic", run: |_, _| traffic::run(), list: |_| () },
+    Suite { name: TRAFFIC, run: |_, _| traffic::run(), list: |_| () },
 ];
+
+/// The suite of frames that are not made here.
+const TRAFFIC: &str = "traffic";
 
 /// The seed of a run that names none, and of the fixed list.
 const SEED: u64 = 1;
@@ -82,16 +86,36 @@ fn task(mut words: impl Iterator<Item = String>) -> Result<Task, String> {
 /// Each suite starts from the seed, so that it repeats alone as it ran among others.
 fn compare(seed: u64, thin: bool, suites: &[&Suite]) -> ExitCode {
     println!("compare: seed {seed}{}", if thin { ", thinned" } else { "" });
-    let (mut calls, mut mismatches) = (0, 0);
+    let (mut made, mut recorded) = (Count::default(), Count::default());
     for suite in suites {
-        for tally in (suite.run)(&mut Random::new(seed), thin) {
-            println!("{}: {tally}", suite.name);
-            calls += tally.calls();
-            mismatches += tally.mismatches();
-        }
+        let count = if suite.name == TRAFFIC { &mut recorded } else { &mut made };
+        *count += one_suite(suite, seed, thin);
     }
-    println!("compare: {calls} calls, {mismatches} mismatches");
-    if mismatches == 0 { ExitCode::SUCCESS } else { ExitCode::FAILURE }
+    verdict(judge::RULES, made.calls > 0, made.against_rules);
+    verdict(judge::CRATE, made.calls > 0 && cfg!(oracle), made.against_crate);
+    verdict("recorded traffic", recorded.calls > 0, recorded.mismatches);
+    made += recorded;
+    println!("compare: {made}");
+    if made.mismatches == 0 { ExitCode::SUCCESS } else { ExitCode::FAILURE }
+}
+
+fn one_suite(suite: &Suite, seed: u64, thin: bool) -> Count {
+    let mut all = Count::default();
+    for tally in (suite.run)(&mut Random::new(seed), thin) {
+        println!("{}: {tally}", suite.name);
+        all += tally.count();
+    }
+    println!("{}: in all {all}", suite.name);
+    all
+}
+
+/// What came of one of the three. What is not at hand, or was not asked for, is skipped: it neither passes nor fails.
+fn verdict(whose: &str, at_hand: bool, against: u64) {
+    match (at_hand, against) {
+        (false, _) => println!("verdict: {whose}: skipped"),
+        (true, 0) => println!("verdict: {whose}: passed"),
+        (true, _) => println!("verdict: {whose}: FAILED"),
+    }
 }
 
 fn main() -> ExitCode {
@@ -99,6 +123,7 @@ fn main() -> ExitCode {
         Ok(Task::Compare { seed, thin, suites }) => compare(seed, thin, &suites),
         Ok(Task::List) => {
             SUITES.iter().for_each(|suite| (suite.list)(&mut Random::new(SEED)));
+            eprintln!("compare: the fixed list has {}", judge::listed());
             ExitCode::SUCCESS
         }
         Err(fault) => {

@@ -1,6 +1,5 @@
 //! The rc suite: what a response code says, and the value of a code that is put together from its parts.
 
-#[cfg(oracle)]
 mod read;
 
 use crate::answer::Answer;
@@ -27,8 +26,8 @@ impl fmt::Display for Value {
 impl Case for Value {
     const JUDGES: &'static [Judge<Self>] = &[
         #[cfg(oracle)]
-        Judge { name: "tpm2-protocol", says: by_crate },
-        Judge { name: "document 01", says: by_document },
+        Judge::tpm2_protocol(by_crate),
+        Judge::document_01(by_document),
     ];
 
     fn preset(&self, answer: &mut Answer) {
@@ -89,21 +88,8 @@ fn check_values(random: &mut Random) -> Tally {
     tally
 }
 
-#[cfg_attr(not(oracle), allow(unused_variables))]
 pub fn run(random: &mut Random, thin: bool) -> Vec<Tally> {
-    if cfg!(not(oracle)) {
-        println!("rc: rc_read is skipped, since only tpm2-protocol tells which codes read");
-    }
-    Vec::from([
-        #[cfg(oracle)]
-        read::run(thin),
-        check_values(random),
-    ])
+    Vec::from([read::run(thin), check_values(random)])
 }
 
-/// Prints some readings, for the fixed list.
-#[cfg_attr(not(oracle), allow(unused_variables))]
-pub fn list(random: &mut Random) {
-    #[cfg(oracle)]
-    read::list(random);
-}
+pub use read::list;

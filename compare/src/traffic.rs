@@ -30,26 +30,20 @@ impl Count {
     }
 }
 
-/// The folder, where there is one. A folder that was asked for must be there.
-fn folder() -> Option<PathBuf> {
-    if let Some(asked) = std::env::var_os("SKEIN_TRAFFIC") {
-        let folder = PathBuf::from(asked);
-        if !folder.is_dir() {
-            eprintln!("compare: SKEIN_TRAFFIC is {}, which is no folder", folder.display());
-            std::process::exit(2);
-        }
-        return Some(folder);
-    }
+/// Where the frames should be.
+fn folder() -> PathBuf {
     // this file is compare/src/traffic.rs
-    let beside = Path::new(file!()).ancestors().nth(4)?.join("shared/facts");
-    beside.is_dir().then_some(beside)
+    let beside = || Path::new(file!()).ancestors().nth(4).map_or_else(PathBuf::new, |above| above.join("shared/facts"));
+    std::env::var_os("SKEIN_TRAFFIC").map_or_else(beside, PathBuf::from)
 }
 
+/// No calls at all where there is no such folder.
 pub fn run() -> Vec<Tally> {
-    let Some(folder) = folder() else {
-        println!("traffic: left out, since SKEIN_TRAFFIC is not set and ../shared/facts is not there");
+    let folder = folder();
+    if !folder.is_dir() {
+        println!("traffic: skipped, since there is no {} (SKEIN_TRAFFIC can name another)", folder.display());
         return Vec::new();
-    };
+    }
     let mut desk = Desk::new();
     traces(&mut desk, &folder.join("traces"));
     published::check(&mut desk, &folder.join("published-frames.csv"));

@@ -120,8 +120,8 @@ impl<const CAPACITY: usize> fmt::Display for View<CAPACITY> {
 impl<const CAPACITY: usize> Case for View<CAPACITY> {
     const JUDGES: &'static [Judge<Self>] = &[
         #[cfg(oracle)]
-        Judge { name: "tpm2-protocol", says: by_crate },
-        Judge { name: "document 01", says: by_document },
+        Judge::tpm2_protocol(by_crate),
+        Judge::document_01(by_document),
     ];
 
     fn preset(&self, answer: &mut Answer) {

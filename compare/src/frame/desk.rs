@@ -80,6 +80,11 @@ impl Desk {
         self.ask_setters(numbers.set);
     }
 
+    /// Adds the counts of another desk.
+    pub fn merge(&mut self, other: &Self) {
+        self.tallies.iter_mut().zip(&other.tallies).for_each(|(mine, more)| mine.merge(more));
+    }
+
     pub fn tally(&mut self, call: usize) -> &mut Tally {
         &mut self.tallies[call]
     }

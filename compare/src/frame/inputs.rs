@@ -8,17 +8,23 @@ use super::call::{Kind, named};
 use super::desk::{Desk, Numbers};
 use super::{known, make};
 use crate::random::Random;
+use std::thread;
 
 /// Where calls are thinned, one in so many is made: a prime, so that all low bits occur.
 const STEP: usize = 4_099;
 
+/// The short strings, which take about as long as all the others, have a thread, a desk and a seed of their own.
 pub fn each(desk: &mut Desk, random: &mut Random, thin: bool) {
-    short(desk, random, thin);
-    codes(desk);
-    tags(desk, thin);
-    headers::each(desk, random, thin);
-    entries::each(desk, random, thin);
-    damage::each(desk, random, thin);
+    let (mut beside, mut seeded) = (Desk::new(), Random::new(random.number()));
+    thread::scope(|scope| {
+        scope.spawn(|| short(&mut beside, &mut seeded, thin));
+        codes(desk);
+        tags(desk, thin);
+        headers::each(desk, random, thin);
+        entries::each(desk, random, thin);
+        damage::each(desk, random, thin);
+    });
+    desk.merge(&beside);
 }
 
 /// Every string of up to three bytes, to which the answer is almost always that a header is missing.

@@ -1,9 +1,11 @@
-//! The reading of every one of the 2^32 response codes, beside the crate's.
+//! The reading of every one of the 2^32 response codes, beside the crate's or, where it is not at hand, beside document
+//! 01's rules. Codes that can read, and many that cannot, are held to both.
 
 use crate::answer::{Answer, Said};
+use crate::frame::known;
 use crate::judge::{self, Case, Judge, PRINTED, Tally};
 use crate::random::Random;
-use crate::{calls, oracle, shrink};
+use crate::{calls, shrink};
 use std::fmt;
 use std::thread;
 
@@ -20,7 +22,11 @@ impl fmt::Display for Read {
 }
 
 impl Case for Read {
-    const JUDGES: &'static [Judge<Self>] = &[Judge { name: "tpm2-protocol", says: by_crate }];
+    const JUDGES: &'static [Judge<Self>] = &[
+        #[cfg(oracle)]
+        Judge::tpm2_protocol(by_crate),
+        Judge::document_01(by_document),
+    ];
 
     fn preset(&self, answer: &mut Answer) {
         answer.preset([]);
@@ -35,8 +41,14 @@ impl Case for Read {
     }
 }
 
+#[cfg(oracle)]
 fn by_crate(case: &Read, answer: &mut Answer) -> bool {
-    theirs(case.code, &mut answer.said);
+    crate_says(case.code, &mut answer.said);
+    true
+}
+
+fn by_document(case: &Read, answer: &mut Answer) -> bool {
+    document_says(case.code, &mut answer.said);
     true
 }
 
@@ -44,9 +56,30 @@ fn ours(code: u32, said: &mut Said) {
     said.call(|out| calls::rc_read(code, out));
 }
 
-fn theirs(code: u32, said: &mut Said) {
-    said.call(|out| oracle::rc_read(code, out));
+#[cfg(oracle)]
+fn crate_says(code: u32, said: &mut Said) {
+    said.call(|out| crate::oracle::rc_read(code, out));
 }
+
+/// Document 01, "Response code": the kind's number, the base, the index, the value; all from Part 2's bits.
+fn document_says(code: u32, said: &mut Said) {
+    let (warning, fmt1, parameter, n) = (code & 0x800 != 0, code & 0x80 != 0, code & 0x40 != 0, code >> 8 & 15);
+    let (kind, base, index) = match n {
+        _ if !known::reads(code) => return said.refuses(5, &[0, code.into()]),
+        _ if !fmt1 => (u64::from(warning), code, 0),
+        _ if parameter => (3, 0x80 | code & 0x3F, n),
+        0 => (2, code, 0),
+        1..=7 => (4, 0x80 | code & 0x3F, n),
+        _ => (5, 0x80 | code & 0x3F, n - 8),
+    };
+    said.gives(&[kind, base.into(), index.into(), code.into()]);
+}
+
+/// The judge of the sweep.
+#[cfg(oracle)]
+use crate_says as theirs;
+#[cfg(not(oracle))]
+use document_says as theirs;
 
 /// The kinds of codes, numbered from 0.
 const KINDS: usize = 6;
@@ -105,7 +138,7 @@ fn sweep(codes: impl Iterator<Item = u32>) -> Found {
     found
 }
 
-/// Codes below this one are never left out: no code from it on reads.
+/// Codes below this one are never left out, and are held to every judge: no code from it on reads.
 const DENSE: u32 = 1 << 16;
 
 /// Where the sweep is thinned, one in so many of the codes above is looked at: a prime, so that all low bits occur.
@@ -126,14 +159,15 @@ fn sweep_high(step: usize) -> Found {
 
 pub fn run(thin: bool) -> Tally {
     let mut tally = Tally::new::<Read>("rc_read");
-    let found = sweep(0..DENSE).merge(sweep_high(if thin { STEP } else { 1 }));
-    let again = found.first.len() as u64;
-    for &code in &found.first {
+    let high = sweep_high(if thin { STEP } else { 1 });
+    for code in (0..DENSE).chain(high.first.iter().copied()) {
         tally.check(&Read { code });
     }
-    tally.add(found.calls - again, found.mismatches - again);
-    if found.mismatches == 0 && found.readable != READABLE {
-        tally.differs_in_all(&format!("the codes that read are, by kind, {:?}, not {READABLE:?}", found.readable));
+    let again = high.first.len() as u64;
+    tally.add(high.calls - again, high.mismatches - again);
+    let readable = sweep(0..DENSE).merge(high).readable;
+    if tally.count().mismatches == 0 && readable != READABLE {
+        tally.differs_in_all(&format!("the codes that read are, by kind, {readable:?}, not {READABLE:?}"));
     }
     tally
 }
