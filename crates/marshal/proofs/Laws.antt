@@ -1,0 +1,102 @@
+-- The last sentence of demand 3 at the port's own table: what a writer takes is a passing frame, and reading it gives the parts handed
+-- over; the parts read from a passing frame, written into enough room, give the same bytes, but under the sessions tag with no entry;
+-- a writer refuses with 7 exactly where document 01 says; and a refused call leaves the room as it was.
+-- The laws themselves hold over any rows, and for commands over any list of known codes that has the rows' codes (CommandWriting,
+-- ResponseWriting, TooLarge).
+-- Assumes nothing.
+use mathlib.Core.Path.{_≡_, ap}
+use mathlib.Core.Bool.{true}
+use mathlib.Core.List.{List, [], _∷_, _++_}
+use mathlib.Core.Logic.{_↔_}
+use Prim.Native.Nat.{ℕ, _+_, _-_, _≤_, _<_}
+use lib.Dec.{eqb}
+use lib.ListN.{length, take, drop}
+use Rattle.base.specs.Bytes.{AreBytes}
+use Rattle.base.specs.Members.{isIn}
+use Rattle.base.specs.Said.{Said, gives, refuses}
+use Rattle.table.specs.Dispatch.{dispatch, commandCodes}
+use Rattle.table.specs.Table.{rowFor}
+use Rattle.table.specs.declared.row.Row.{Row}
+use Rattle.table.proofs.Table.{row-known}
+use Rattle.frame.specs.declared.command.Command.{Command}
+use Rattle.frame.specs.declared.response.Response.{Response}
+use Rattle.frame.specs.Answer.{commandByValue, responseByValue}
+use Rattle.frame.specs.Command.{readCommand}
+use Rattle.frame.specs.Header.{sessions}
+use Rattle.frame.specs.Parts.{commandParts, responseParts}
+use Rattle.frame.specs.Response.{readResponse}
+use Rattle.frame.proofs.FrameLaws.{two-tags}
+use Rattle.marshal.specs.Handed.{Handed, commandFrame}
+use Rattle.marshal.specs.Write.{counted, roomAfter, writeCommand, writeResponse}
+use Rattle.marshal.proofs.CommandWriting as command
+use Rattle.marshal.proofs.CommandWriting.{commandHanded}
+use Rattle.marshal.proofs.Parts.{OfTypes}
+use Rattle.marshal.proofs.ResponseWriting as response
+use Rattle.marshal.proofs.ResponseWriting.{responseFrame, responseHanded, shorter}
+use Rattle.marshal.proofs.TooLarge as large
+use Rattle.marshal.proofs.TooLarge.{CommandTooLarge, ResponseTooLarge}
+use Rattle.marshal.proofs.Writers.{room-is, room-start}
+
+has-code : (code : ℕ) (r : Row) → rowFor dispatch code ≡ gives r → isIn code commandCodes ≡ true
+has-code code r found = row-known code found
+
+-- a call answers `counted` and leaves `roomAfter` of what its definition gives for the length of the room
+module _ (room : List ℕ) where
+  abbrev Wrote : Said (List ℕ) → List ℕ → Type 0
+  Wrote said t = (counted said ≡ gives (length t)) × (roomAfter room said ≡ t ++ drop (length t) room)
+
+  -- ---- commands
+
+  pub command-reads : (tag code : ℕ) (h : Handed) {n : ℕ} → counted (writeCommand dispatch tag code h (length room)) ≡ gives n
+      → OfTypes h → code < 4294967296
+      → let t = take n (roomAfter room (writeCommand dispatch tag code h (length room))) in
+      (c : Command) × (commandByValue t (readCommand dispatch commandCodes t) ≡ gives c) × (commandParts t c ≡ commandFrame tag code h)
+  command-reads tag code h answer types fits =
+      let start = room-start room (writeCommand dispatch tag code h (length room)) answer in
+      rw (start .2) (command.command-reads dispatch commandCodes has-code two-tags tag code h (length room) (start .1) types fits)
+
+  module _ (s : List ℕ) (are : AreBytes s) (c : Command) (read : commandByValue s (readCommand dispatch commandCodes s) ≡ gives c) where
+    pub command-again : length s ≤ length room → (eqb (c .tag .0) sessions ≡ true → c .entries .count ≡ 0 → ⊥)
+        → Wrote (writeCommand dispatch (c .tag .0) (c .cc .0) (commandHanded s c) (length room)) s
+    command-again enough some = room-is room (command.command-again dispatch commandCodes has-code two-tags s c read are (length room) enough some)
+
+    pub command-empty : c .tag .0 ≡ sessions → c .entries .count ≡ 0
+        → writeCommand dispatch (c .tag .0) (c .cc .0) (commandHanded s c) (length room) ≡ refuses (3 ∷ 0 ∷ 0x8002 ∷ [])
+    command-empty = command.command-empty dispatch s c (length room)
+
+  -- ---- responses to the command of a code
+
+  module _ (cc : ℕ) where
+    pub response-reads : (code : ℕ) (h : Handed) {n : ℕ} → counted (writeResponse dispatch cc code h (length room)) ≡ gives n
+        → OfTypes h → code < 4294967296
+        → let t = take n (roomAfter room (writeResponse dispatch cc code h (length room))) in
+        (r : Response) × (responseByValue t (readResponse dispatch cc t) ≡ gives r) × (responseParts t r ≡ responseFrame code h)
+    response-reads code h answer types fits =
+        let start = room-start room (writeResponse dispatch cc code h (length room)) answer in
+        rw (start .2) (response.response-reads dispatch cc code h (length room) (start .1) types fits)
+
+    module _ (s : List ℕ) (are : AreBytes s) (r : Response) (read : responseByValue s (readResponse dispatch cc s) ≡ gives r) where
+      pub response-again : length s ≤ length room → (eqb (r .tag .0) sessions ≡ true → r .entries .count ≡ 0 → ⊥)
+          → Wrote (writeResponse dispatch cc (r .rc .0) (responseHanded s r) (length room)) s
+      response-again enough some = room-is room (response.response-again dispatch cc s are r read (length room) enough some)
+
+      pub response-shorter : length s - 4 ≤ length room → r .tag .0 ≡ sessions → r .entries .count ≡ 0
+          → Wrote (writeResponse dispatch cc (r .rc .0) (responseHanded s r) (length room)) (shorter s r) × (length (shorter s r) + 4 ≡ length s)
+      response-shorter enough tag none =
+          let wrote = response.response-shorter dispatch cc s are r read (length room) enough tag none in
+          (room-is room (wrote .0), wrote .1)
+
+-- ---- a total that is too large
+
+pub command-too-large : (tag code : ℕ) (h : Handed) (room n : ℕ)
+    → (writeCommand dispatch tag code h room ≡ refuses (7 ∷ 0 ∷ n ∷ [])) ↔ CommandTooLarge dispatch tag code h n
+command-too-large = large.command-too-large dispatch
+
+pub response-too-large : (cc code : ℕ) (h : Handed) (room n : ℕ)
+    → (writeResponse dispatch cc code h room ≡ refuses (7 ∷ 0 ∷ n ∷ [])) ↔ ResponseTooLarge dispatch cc code h n
+response-too-large = large.response-too-large dispatch
+
+-- ---- what a refused call leaves
+
+pub refused-leaves : (room : List ℕ) {said : Said (List ℕ)} {why : List ℕ} → said ≡ refuses why → roomAfter room said ≡ room
+refused-leaves room e = ap (roomAfter room) e

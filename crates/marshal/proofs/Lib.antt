@@ -1,0 +1,14 @@
+pub mod CommandWriting
+pub mod Frames
+pub mod Judgements
+pub mod Laws
+pub mod Lengths
+pub mod Parts
+pub mod ResponseWriting
+pub mod Rooms
+pub mod Sessions
+pub mod Single
+pub mod Steps
+pub mod TooLarge
+pub mod Worked
+pub mod Writers

@@ -1,0 +1,246 @@
+-- Writing a response to one command and reading it, over any rows: what the writer takes is a passing response whose parts are those
+-- handed over; and the parts read from a passing response, written into enough room, give its bytes again, but for success under the
+-- sessions tag with no entry, which comes out under the plain tag.
+-- Assumes nothing.
+use mathlib.Core.Path.{_≡_, refl, sym, _∙_, ap, subst}
+use mathlib.Core.Bool.{true, cond}
+use mathlib.Core.List.{List, [], _++_, append-nil}
+use mathlib.Core.Logic.{inl, inr}
+use Prim.Native.Nat.{ℕ, _+_, _-_, _≤_, _<_}
+use native.Mathlib.Omega.{arith}
+use borrow.Author.Tests.{eq-eqb, eqb-false}
+use lib.Dec.{eqb}
+use lib.ListN.{length, length-append}
+use Rattle.base.specs.Bytes.{AreBytes, bytes}
+use Rattle.base.specs.Parts.{heldAt}
+use Rattle.base.specs.Said.{gives, given}
+use Rattle.base.proofs.Bytes.{length-bytes}
+use Rattle.base.proofs.Checks.{passes, then-gives, gives-injective}
+use Rattle.rc.specs.Code.{readCode}
+use Rattle.table.specs.Table.{rowFor}
+use Rattle.table.specs.declared.row.Row.{Row}
+use Rattle.frame.specs.declared.response.Response.{Response}
+use Rattle.frame.specs.declared.session.Session.{Session}
+use Rattle.frame.specs.Answer.{responseByValue}
+use Rattle.frame.specs.Command.{Division}
+use Rattle.frame.specs.Header.{sessions}
+use Rattle.frame.specs.Layout.{Frame, SuccessParts, ErrorParts, ResponseParts, layoutEntries, layoutBody, layoutFrame, layoutResponse}
+use Rattle.frame.specs.Parts.{entriesIn, responseParts}
+use Rattle.frame.specs.Response.{responseAreas, readResponse}
+use Rattle.frame.specs.Walk.{walk, byValue}
+use Rattle.frame.proofs.FrameLaws.{is-of-two, of-the-two, length-frame}
+use Rattle.frame.proofs.ResponseLaws.{response-divides}
+use Rattle.frame.proofs.Standing.{length-entries}
+use Rattle.marshal.specs.Handed.{Handed, tagFor, entriesHanded, withoutHandles, successFrame, errorFrame}
+use Rattle.marshal.specs.Write.{writeError, writeResponse}
+use Rattle.marshal.proofs.Frames.{length-success, success-layout, length-body}
+use Rattle.marshal.proofs.Parts.{
+  OfTypes,
+  Stand,
+  handedBack,
+  whole-sessions,
+  whole-without,
+  no-handles,
+  length-without,
+  three-at-most,
+  count-is,
+  walk-stands,
+  no-entries,
+  tag-goes,
+}
+use Rattle.marshal.proofs.Sessions.{entries-none}
+use Rattle.marshal.proofs.Writers.{tag-two, response-passed, passed-success, passed-error, success-is, error-is, length-error}
+
+-- the frame that is asked for, by its code
+abbrev pub responseFrame : ℕ → Handed → Frame
+responseFrame code h = cond (eqb code 0) (successFrame h) (errorFrame code)
+
+-- a response that was read, as the writer takes it
+abbrev pub responseHanded : List ℕ → Response → Handed
+responseHanded s r = handedBack s (r .handles) (r .entries) (r .parameters)
+
+-- the same under the plain tag, without the size before the parameters
+abbrev pub shorter : List ℕ → Response → List ℕ
+shorter s r = bytes 2 0x8001 ++ (bytes 4 (length s - 4) ++ (bytes 4 0 ++ (heldAt (r .handles) s ++ heldAt (r .parameters) s)))
+
+module _ (rows : List Row) (cc : ℕ) where
+  -- ---- what is written passes
+
+  module _ (code : ℕ) (h : Handed) (room : ℕ) {t : List ℕ} (written : writeResponse rows cc code h room ≡ gives t) (types : OfTypes h)
+      (fits : code < 4294967296) where
+    pub response-formed : ResponseParts rows cc (responseFrame code h) × (t ≡ layoutResponse (responseFrame code h))
+    response-formed =
+        let p = response-passed rows cc code h room written in
+        let tag = tagFor (h .sessions .count) in
+        elim (p .either-kind) [
+          | inl success ↦
+              let zero : eqb code 0 ≡ true = eq-eqb code 0 (success .0) in
+              let small : length t ≤ 4294967295 = success .1 .small in
+              let parts : SuccessParts (p .row .responses) (successFrame h) =
+              record {
+                success = refl;
+                well-formed = record {
+                  tag-of-two = of-the-two tag (tag-two tag (h .sessions .count) refl);
+                  code-fits = omega arith;
+                  handle-bytes = types .handle-bytes;
+                  handle-count = success .1 .handle-count;
+                  whole-entries = whole-without (entriesHanded h) (whole-sessions h types (success .1 .there));
+                  three-entries = rw (length-without, length-entries) (three-at-most (h .sessions));
+                  plain-entries = λ q. ap withoutHandles (no-entries tag h refl q);
+                  parameter-bytes = types .parameter-bytes;
+                };
+                size-fits = rw (← success .2) (omega arith);
+              } in
+              rw zero (record { row = p .row; has-row = p .has-row; either-kind = inl parts }, success .2)
+          | inr error ↦
+              let parts : ErrorParts (errorFrame code) =
+              record {
+                tag-plain = refl;
+                code-fits = fits;
+                code-reads = p .code-reads;
+                no-success = error .0;
+                no-handles = refl;
+                no-entries = refl;
+                no-parameters = refl;
+              } in
+              rw (error .0) (record { row = p .row; has-row = p .has-row; either-kind = inr parts }, error .2)
+        ]
+
+    -- and its parts are those handed over
+    pub response-reads : (r : Response) × (responseByValue t (readResponse rows cc t) ≡ gives r) × (responseParts t r ≡ responseFrame code h)
+    response-reads =
+        let formed = response-formed in
+        rw (formed .1) (response-divides rows cc .parts-read (responseFrame code h) (formed .0))
+
+  -- ---- what was read is written again
+
+  module _ (s : List ℕ) (are : AreBytes s) (r : Response) (read : responseByValue s (readResponse rows cc s) ≡ gives r) where
+    abbrev h : Handed
+    h = responseHanded s r
+
+    formed : ResponseParts rows cc (responseParts s r) × (layoutResponse (responseParts s r) ≡ s)
+    formed = response-divides rows cc .again s are r read
+
+    stand : Stand s (r .entries)
+    unfolding readResponse
+    stand =
+        let division = then-gives (readResponse rows cc s) _ read in
+        let areas = then-gives (responseAreas rows cc s) _ (division .1) in
+        let entries = then-gives (walk 3 0 s (areas .0 .to)) _ (areas .2) in
+        let same : byValue (entries .0) ≡ r .entries =
+        ap (λ (d : Division). byValue (d .entries)) (gives-injective (entries .2)) ∙ ap (λ (k : Response). k .entries) (gives-injective (division .2)) in
+        subst (Stand s) same (walk-stands 0 s (areas .0 .to) s (omega arith) (entries .1))
+
+    success-again : {responses : ℕ} → SuccessParts responses (responseParts s r) → (row : Row) → rowFor rows cc ≡ gives row → responses ≡ row .responses
+        → (room : ℕ) → length s ≤ room → r .tag .0 ≡ tagFor (r .entries .count) → writeResponse rows cc (r .rc .0) h room ≡ gives s
+    unfolding responseParts
+    success-again success row found of room enough tag =
+        let zero : r .rc .0 ≡ 0 = success .success in
+        let same : successFrame h ≡ responseParts s r =
+        λ i. record {
+          tag = sym tag i;
+          code = sym zero i;
+          handles = h .handles;
+          entries = no-handles (entriesHanded h) (success .well-formed .whole-entries) i;
+          parameters = h .parameters;
+        } in
+        let layout : layoutResponse (successFrame h) ≡ s = ap layoutResponse same ∙ formed .1 in
+        let small : length s < 4294967296 = rw (formed .1) at (success .size-fits) in
+        sym (success-is rows cc (r .rc .0) h room (stand .0) (sym found) zero)
+        ∙ passed-success rows cc (r .rc .0) h room (row .responses) {n = length s} (record {
+          handle-count = rw of at (success .well-formed .handle-count);
+          there = stand .1;
+          total-is = ap length (sym layout) ∙ length-success h (stand .1);
+          small = omega arith;
+          room-for = enough;
+        })
+        ∙ ap gives layout
+
+    error-again : (row : Row) → rowFor rows cc ≡ gives row → ErrorParts (responseParts s r) → (room : ℕ) → length s ≤ room
+        → writeResponse rows cc (r .rc .0) h room ≡ gives s
+    unfolding responseParts
+    error-again row found error room enough =
+        let none : r .entries .count ≡ 0 = sym (count-is s (r .entries) (stand .0)) ∙ ap length (error .no-entries) in
+        let same : errorFrame (r .rc .0) ≡ responseParts s r =
+        λ i. record {
+          tag = sym (error .tag-plain) i;
+          code = r .rc .0;
+          handles = sym (error .no-handles) i;
+          entries = sym (error .no-entries) i;
+          parameters = sym (error .no-parameters) i;
+        } in
+        let layout : layoutResponse (errorFrame (r .rc .0)) ≡ s = ap layoutResponse same ∙ formed .1 in
+        let ten : length s ≡ 10 = ap length (sym layout) ∙ length-error (r .rc .0) in
+        sym (error-is rows cc (r .rc .0) h room (stand .0) (sym found) (eqb-false (r .rc .0) 0 (error .no-success)))
+        ∙ sym (passes (given (readCode (r .rc .0))) _ (writeError (r .rc .0) (r .entries .count) room) (error .code-reads))
+        ∙ passed-error (r .rc .0) (r .entries .count) room none (omega arith)
+        ∙ ap gives layout
+
+    -- the parts that were read, written into enough room, give the same bytes ..
+    pub response-again : (room : ℕ) → length s ≤ room → (eqb (r .tag .0) sessions ≡ true → r .entries .count ≡ 0 → ⊥)
+        → writeResponse rows cc (r .rc .0) h room ≡ gives s
+    unfolding responseParts
+    response-again room enough some =
+        let parts = formed .0 in
+        elim (parts .either-kind) [
+          | inl success ↦
+              success-again success (parts .row) (parts .has-row) refl room enough
+              (tag-goes (r .tag .0) (r .entries .count) (is-of-two (r .tag .0) (success .well-formed .tag-of-two))
+              (λ q. sym (count-is s (r .entries) (stand .0)) ∙ ap length (success .well-formed .plain-entries q)) some)
+          | inr error ↦ error-again (parts .row) (parts .has-row) error room enough
+        ]
+
+    -- .. but success under the sessions tag with no entry comes out under the plain tag, four bytes shorter
+
+    module _ {responses : ℕ} (success : SuccessParts responses (responseParts s r)) (tag : r .tag .0 ≡ sessions) (none : r .entries .count ≡ 0) where
+      no-entry : layoutEntries 0 (entriesHanded h) ≡ []
+      no-entry = ap (λ (es : List Session). layoutEntries 0 (entriesIn s es)) (entries-none (r .entries) none)
+
+      long : length s ≡ 14 + length (h .handles) + length (h .parameters)
+      unfolding responseParts layoutResponse
+      long =
+          let entries : List ℕ = layoutEntries 0 (entriesHanded h) in
+          let empty : length entries ≡ 0 = ap length no-entry in
+          let body = length-body (r .tag .0) (h .handles) (h .parameters) entries in
+          let four : _≡_ {A = ℕ} (cond (eqb (r .tag .0) sessions) 4 0) 4 = rw tag refl in
+          let all = length-frame (r .tag .0) (r .rc .0) (layoutBody (r .tag .0) (h .handles) (h .parameters) entries) in
+          let again : length (layoutFrame (r .tag .0) (r .rc .0) (layoutBody (r .tag .0) (h .handles) (h .parameters) entries)) ≡ length s =
+          ap length (formed .1) in
+          omega arith
+
+      plainly : layoutResponse (successFrame h) ≡ shorter s r
+      plainly =
+          let is-plain : tagFor (r .entries .count) ≡ 0x8001 = rw none refl in
+          let sum = long in
+          let both = length-append (h .handles) (h .parameters) in
+          let size : 10 + length (h .handles ++ h .parameters) ≡ length s - 4 = omega arith in
+          success-layout h (stand .1)
+          ∙ (λ i. layoutFrame (is-plain i) 0 (layoutBody (is-plain i) (h .handles) (h .parameters) (no-entry i)))
+          ∙ ap (λ (t : List ℕ). layoutFrame 0x8001 0 (h .handles ++ t)) (append-nil (h .parameters))
+          ∙ ap (λ (n : ℕ). bytes 2 0x8001 ++ (bytes 4 n ++ (bytes 4 0 ++ (h .handles ++ h .parameters)))) size
+
+    pub response-shorter : (room : ℕ) → length s - 4 ≤ room → r .tag .0 ≡ sessions → r .entries .count ≡ 0
+        → (writeResponse rows cc (r .rc .0) h room ≡ gives (shorter s r)) × (length (shorter s r) + 4 ≡ length s)
+    unfolding responseParts
+    response-shorter room enough tag none =
+        let parts = formed .0 in
+        elim (parts .either-kind) [
+          | inl success ↦
+              let zero : r .rc .0 ≡ 0 = success .success in
+              let layout = plainly success tag none in
+              let sum = long success tag none in
+              let length-shorter : length (shorter s r) ≡ 10 + length (h .handles) + length (h .parameters) = simp (length-append, length-bytes) (omega arith) in
+              let small : length s < 4294967296 = rw (formed .1) at (success .size-fits) in (
+                sym (success-is rows cc (r .rc .0) h room (stand .0) (sym (parts .has-row)) zero)
+                    ∙ passed-success rows cc (r .rc .0) h room (parts .row .responses) {n = length (shorter s r)} (record {
+                      handle-count = success .well-formed .handle-count;
+                      there = stand .1;
+                      total-is = ap length (sym layout) ∙ length-success h (stand .1);
+                      small = omega arith;
+                      room-for = omega arith;
+                    })
+                    ∙ ap gives layout,
+                omega arith,
+              )
+          | inr error ↦ let plain-too = error .tag-plain in absurd (omega arith)
+        ]

@@ -1,0 +1,209 @@
+-- A writer refuses with 7 exactly where all that comes before passes and the total of document 01 is above 4,294,967,295.
+-- Assumes nothing.
+use mathlib.Core.Path.{_≡_, refl, sym, _∙_, ap}
+use mathlib.Core.Bool.{Bool, Bool·beq, true, false, cond}
+use mathlib.Core.List.{List, [], _∷_}
+use mathlib.Core.Logic.{_⊎_, inl, inr, _↔_}
+use Prim.Native.Nat.{ℕ, _+_, _*_, _≤_, _<_}
+use native.Mathlib.Omega.{arith}
+use borrow.Author.Tests.{le-leb, lt-leb, leb-true, leb-false, eqb-true}
+use lib.Dec.{eqb, leb, ltb}
+use lib.ListN.{length, getD}
+use Rattle.base.specs.Said.{Said, gives, refuses, needs, then, given}
+use Rattle.base.proofs.Checks.{stops, gives≢refuses, refuses-injective}
+use Rattle.rc.specs.Code.{readCode}
+use Rattle.table.specs.Table.{rowFor}
+use Rattle.table.specs.declared.row.Row.{Row}
+use Rattle.frame.specs.declared.session.Field.{Field}
+use Rattle.frame.specs.declared.session.Session.{Session}
+use Rattle.frame.specs.Header.{sessions, isOfTwo}
+use Rattle.frame.specs.Parts.{entriesOf}
+use Rattle.marshal.specs.Handed.{Handed, tagFor}
+use Rattle.marshal.specs.Write.{
+  capped,
+  fieldThere,
+  sessionThere,
+  sessionsThere,
+  totalSize,
+  fitted,
+  judged,
+  writeCommand,
+  writeSuccess,
+  writeError,
+  writeResponse,
+}
+use Rattle.marshal.proofs.Writers.{tag-same, row-found, success-is}
+
+-- ---- how an order of checks refuses
+
+module _ {A : Type 0} where
+  needs-refuses : (t : Bool) (why : List ℕ) (rest : Said A) {w : List ℕ} → needs t why rest ≡ refuses w
+      → ((t ≡ true) × (rest ≡ refuses w)) ⊎ ((t ≡ false) × (why ≡ w))
+  needs-refuses true why rest e = inl (refl, e)
+  needs-refuses false why rest e = inr (refl, refuses-injective e)
+
+  cond-refuses : (t : Bool) (x y : Said A) {w : List ℕ} → cond t x y ≡ refuses w
+      → ((t ≡ true) × (x ≡ refuses w)) ⊎ ((t ≡ false) × (y ≡ refuses w))
+  cond-refuses true x y e = inl (refl, e)
+  cond-refuses false x y e = inr (refl, e)
+
+  then-refuses : {B : Type 0} (s : Said A) (f : A → Said B) {w : List ℕ} → then s f ≡ refuses w
+      → ((a : A) × (s ≡ gives a) × (f a ≡ refuses w)) ⊎ (s ≡ refuses w)
+  then-refuses (gives a) f e = inl (a, refl, e)
+  then-refuses (refuses why) f e = inr (ap refuses (refuses-injective e))
+
+-- a check with another number was passed
+passed : {A : Type 0} (t : Bool) (why : List ℕ) (rest : Said A) {w : List ℕ} → (getD why 0 0 ≡ getD w 0 0 → ⊥) → needs t why rest ≡ refuses w
+    → (t ≡ true) × (rest ≡ refuses w)
+passed t why rest {w} other e = elim (needs-refuses t why rest e) [ inl p ↦ p | inr same ↦ absurd (other (ap (λ (l : List ℕ). getD l 0 0) (same .1))) ]
+
+-- a row is refused with 4, a session with 1
+row-number : (rows : List Row) (code : ℕ) {w : List ℕ} → rowFor rows code ≡ refuses w → getD w 0 0 ≡ 4
+row-number [] code e = ap (λ (l : List ℕ). getD l 0 0) (sym (refuses-injective e))
+row-number (r ∷ rows) code e = elim (cond-refuses (eqb code (r .code)) (gives r) (rowFor rows code) e) [
+  | inl found ↦ absurd (gives≢refuses (found .1))
+  | inr other ↦ row-number rows code (other .1)
+]
+
+field-number : (len : ℕ) (f : Field) {w : List ℕ} → fieldThere len f ≡ refuses w → getD w 0 0 ≡ 1
+field-number len f e = elim (needs-refuses (leb (f .at + f .size) len) _ (gives tt) e) [
+  | inl p ↦ absurd (gives≢refuses (p .1))
+  | inr same ↦ ap (λ (l : List ℕ). getD l 0 0) (sym (same .1))
+]
+
+session-number : (len : ℕ) (es : List Session) {w : List ℕ} → sessionsThere len es ≡ refuses w → getD w 0 0 ≡ 1
+unfolding sessionsThere
+session-number len [] e = absurd (gives≢refuses e)
+session-number len (x ∷ es) e = elim (then-refuses (sessionThere len x) _ e) [
+  | inl p ↦ session-number len es (p .2)
+  | inr first ↦ elim (then-refuses (fieldThere len (x .nonce)) _ first) [
+    | inl p ↦ field-number len (x .hmac) (p .2)
+    | inr nonce ↦ field-number len (x .nonce) nonce
+  ]
+]
+
+-- ---- behind the handles
+
+pub record TooLarge (width tag handles : ℕ) (h : Handed) (n : ℕ) : Type 0 where
+  pub handle-count : length (h .handles) ≡ 4 * handles
+  pub there : sessionsThere (length (h .lent)) (entriesOf (h .sessions)) ≡ gives tt
+  pub large : 4294967295 < totalSize width tag h
+  pub told : n ≡ capped (totalSize width tag h)
+
+module _ (width tag handles : ℕ) (h : Handed) (room n : ℕ) where
+  judged-too-large : judged width tag handles h room ≡ refuses (7 ∷ 0 ∷ n ∷ []) → TooLarge width tag handles h n
+  unfolding judged
+  judged-too-large e =
+      let few = passed (leb (4 * handles) (length (h .handles))) _ _ (λ q. omega arith) e in
+      let many = passed (leb (length (h .handles)) (4 * handles)) _ _ (λ q. omega arith) (few .1) in
+      let low = leb-true (4 * handles) (length (h .handles)) (few .0) in
+      let high = leb-true (length (h .handles)) (4 * handles) (many .0) in
+      elim (then-refuses (sessionsThere (length (h .lent)) (entriesOf (h .sessions))) _ (many .1)) [
+        | inr missing ↦ let one = session-number (length (h .lent)) (entriesOf (h .sessions)) missing in absurd (omega arith)
+        | inl p ↦ elim (needs-refuses (leb (totalSize width tag h) 4294967295) _ (fitted (totalSize width tag h) room) (p .2)) [
+          | inl q ↦ absurd (gives≢refuses (passed (leb (totalSize width tag h) room) _ (gives (totalSize width tag h)) (λ q. omega arith) (q .1) .1))
+          | inr large ↦ record {
+            handle-count = omega arith;
+            there = p .1;
+            large = leb-false (totalSize width tag h) 4294967295 (large .0);
+            told = ap (λ (l : List ℕ). getD l 2 0) (sym (large .1));
+          }
+        ]
+      ]
+
+  too-large-judged : TooLarge width tag handles h n → judged width tag handles h room ≡ refuses (7 ∷ 0 ∷ n ∷ [])
+  unfolding judged
+  too-large-judged t =
+      let count = t .handle-count in
+      rw (le-leb (4 * handles) (length (h .handles)) (omega arith), le-leb (length (h .handles)) (4 * handles) (omega arith), t .there)
+      (rw (lt-leb (totalSize width tag h) 4294967295 (t .large)) (ap (λ (m : ℕ). refuses (7 ∷ 0 ∷ m ∷ [])) (sym (t .told))))
+
+-- ---- commands
+
+pub record CommandTooLarge (rows : List Row) (tag code : ℕ) (h : Handed) (n : ℕ) : Type 0 where
+  pub tag-is : tag ≡ tagFor (h .sessions .count)
+  pub few : h .sessions .count ≤ 3
+  pub row : Row
+  pub has-row : rowFor rows code ≡ gives row
+  pub too-large : TooLarge 4 tag (row .handles) h n
+
+module _ (rows : List Row) (tag code : ℕ) (h : Handed) (room n : ℕ) where
+  command-is-too-large : writeCommand rows tag code h room ≡ refuses (7 ∷ 0 ∷ n ∷ []) → CommandTooLarge rows tag code h n
+  unfolding writeCommand
+  command-is-too-large e =
+      let two = passed (isOfTwo tag) _ _ (λ q. omega arith) e in
+      let agree = passed (Bool·beq (eqb tag sessions) (ltb 0 (h .sessions .count))) _ _ (λ q. omega arith) (two .1) in
+      let few = passed (leb (h .sessions .count) 3) _ _ (λ q. omega arith) (agree .1) in
+      elim (then-refuses (rowFor rows code) _ (few .1)) [
+        | inr none ↦ let four = row-number rows code none in absurd (omega arith)
+        | inl found ↦ elim (then-refuses (judged 4 tag (found .0 .handles) h room) _ (found .2)) [
+          | inl p ↦ absurd (gives≢refuses (p .2))
+          | inr large ↦ record {
+            tag-is = tag-same tag (h .sessions .count) (two .0) (agree .0);
+            few = leb-true (h .sessions .count) 3 (few .0);
+            row = found .0;
+            has-row = found .1;
+            too-large = judged-too-large 4 tag (found .0 .handles) h room n large;
+          }
+        ]
+      ]
+
+  pub command-too-large : (writeCommand rows tag code h room ≡ refuses (7 ∷ 0 ∷ n ∷ [])) ↔ CommandTooLarge rows tag code h n
+  command-too-large = (
+    command-is-too-large,
+    (λ t.
+        sym (row-found rows tag code h room (t .tag-is) (t .few) (sym (t .has-row)))
+        ∙ sym (stops (judged 4 tag (t .row .handles) h room) _ (sym (too-large-judged 4 tag (t .row .handles) h room n (t .too-large))))),
+  )
+
+-- ---- responses: only success has a total
+
+pub record ResponseTooLarge (rows : List Row) (cc code : ℕ) (h : Handed) (n : ℕ) : Type 0 where
+  pub few : h .sessions .count ≤ 3
+  pub row : Row
+  pub has-row : rowFor rows cc ≡ gives row
+  pub success : code ≡ 0
+  pub too-large : TooLarge 0 (tagFor (h .sessions .count)) (row .responses) h n
+
+module _ (rows : List Row) (cc code : ℕ) (h : Handed) (room n : ℕ) where
+  error-no-total : writeError code (h .sessions .count) room ≡ refuses (7 ∷ 0 ∷ n ∷ []) → ⊥
+  unfolding writeError
+  error-no-total e =
+      let none = passed (eqb (h .sessions .count) 0) _ _ (λ q. omega arith) e in
+      elim (then-refuses (fitted 10 room) _ (none .1)) [
+        | inl p ↦ gives≢refuses (p .2)
+        | inr short ↦ gives≢refuses (passed (leb 10 room) _ (gives 10) (λ q. omega arith) short .1)
+      ]
+
+  response-is-too-large : writeResponse rows cc code h room ≡ refuses (7 ∷ 0 ∷ n ∷ []) → ResponseTooLarge rows cc code h n
+  unfolding writeResponse writeSuccess
+  response-is-too-large e =
+      let few = passed (leb (h .sessions .count) 3) _ _ (λ q. omega arith) e in
+      elim (then-refuses (rowFor rows cc) _ (few .1)) [
+        | inr none ↦ let four = row-number rows cc none in absurd (omega arith)
+        | inl found ↦
+            let reads = passed (given (readCode code)) _ _ (λ q. omega arith) (found .2) in
+            elim (cond-refuses (eqb code 0) (writeSuccess (found .0 .responses) h room) (writeError code (h .sessions .count) room) (reads .1)) [
+              | inr error ↦ absurd (error-no-total (error .1))
+              | inl success ↦ elim (then-refuses (judged 0 (tagFor (h .sessions .count)) (found .0 .responses) h room) _ (success .1)) [
+                | inl p ↦ absurd (gives≢refuses (p .2))
+                | inr large ↦ record {
+                  few = leb-true (h .sessions .count) 3 (few .0);
+                  row = found .0;
+                  has-row = found .1;
+                  success = eqb-true code 0 (success .0);
+                  too-large = judged-too-large 0 (tagFor (h .sessions .count)) (found .0 .responses) h room n large;
+                }
+              ]
+            ]
+      ]
+
+  pub response-too-large : (writeResponse rows cc code h room ≡ refuses (7 ∷ 0 ∷ n ∷ [])) ↔ ResponseTooLarge rows cc code h n
+  unfolding writeSuccess
+  response-too-large = (
+    response-is-too-large,
+    (λ t.
+        let tag = tagFor (h .sessions .count) in
+        sym (success-is rows cc code h room (t .few) (sym (t .has-row)) (t .success))
+        ∙ sym (stops (judged 0 tag (t .row .responses) h room) _ (sym (too-large-judged 0 tag (t .row .responses) h room n (t .too-large))))),
+  )

@@ -1,0 +1,75 @@
+-- `marshal::command::judge_command` meets its contract: each return is the case of the definition to which its tests lead.
+-- Assumes nothing.
+use mathlib.Core.Path.{sym, _∙_, ap}
+use denote.Ref.{now}
+use Rattle.base.specs.Said.{refuses}
+use Rattle.base.proofs.Answers.{learnt}
+use Rattle.table.specs.Dispatch.{dispatch}
+use Rattle.table.specs.Table.{saidFound}
+use Rattle.marshal.specs.Handed.{handed}
+use Rattle.marshal.specs.Write.{counted}
+use Rattle.marshal.proofs.Writers.{wrong-tag, many-sessions, no-row, command-judged}
+use borrow.Author.Needs.{needs}
+use Rattle.marshal.proofs.command.judge_command.Statement.{statement}
+use Rattle.marshal.proofs.command.judge_command.Tie as tie
+
+tag-for-requires : tie.Need-tag-for-requires
+tag-for-requires c κs = search needs
+
+too-many-requires : tie.Need-too-many-requires
+too-many-requires c κs = search needs
+
+returns : tie.Need-returns
+returns c =
+    let a = c .before .before .before .before .before .before .before .before .before .args in
+    let h = handed (now (a .handles)) (a .sessions) (now (a .lent)) (now (a .parameters)) in
+    ap refuses (c .too-many .ensures) ∙ ap counted (many-sessions dispatch (a .tag .0) (a .cc .0) h (a .room) (c .before .before .before .if1 .taken ∙ c .before .before .before .before .before .tag-for .ensures) (c .before .if2 .taken))
+
+find-requires : tie.Need-find-requires
+find-requires c κs = search needs
+
+enum-known-e : tie.Need-enum-known-e
+enum-known-e c = search needs
+
+enum-known-row : tie.Need-enum-known-row
+enum-known-row c = search needs
+
+judge-requires : tie.Need-judge-requires
+judge-requires c κs = search needs
+
+returns-2 : tie.Need-returns-2
+returns-2 c =
+    let a = c .before .before .before .before .before .before .before .before .before .before .before .before .args in
+    let h = handed (now (a .handles)) (a .sessions) (now (a .lent)) (now (a .parameters)) in
+    ap counted (no-row dispatch (a .tag .0) (a .cc .0) h (a .room) (c .before .before .before .before .before .before .if1 .taken ∙ c .before .before .before .before .before .before .before .before .tag-for .ensures) (c .before .before .before .before .if2 .left) (learnt saidFound (c .before .e .given .1) (c .before .before .before .find .ensures)))
+
+returns-3 : tie.Need-returns-3
+returns-3 c =
+    let a = c .before .before .before .before .before .before .before .before .before .before .before .before .before .args in
+    let h = handed (now (a .handles)) (a .sessions) (now (a .lent)) (now (a .parameters)) in
+    c .judge .ensures ∙ command-judged dispatch (a .tag .0) (a .cc .0) h (a .room) (c .before .before .before .before .before .before .before .if1 .taken ∙ c .before .before .before .before .before .before .before .before .before .tag-for .ensures) (c .before .before .before .before .before .if2 .left) (learnt saidFound (c .before .before .row .given .1) (c .before .before .before .before .find .ensures))
+
+refused-requires : tie.Need-refused-requires
+refused-requires c κs = search needs
+
+returns-4 : tie.Need-returns-4
+returns-4 c =
+    let a = c .before .before .before .before .before .before .before .args in
+    let h = handed (now (a .handles)) (a .sessions) (now (a .lent)) (now (a .parameters)) in
+    ap refuses (c .refused .ensures) ∙ ap counted (wrong-tag dispatch (a .tag .0) (a .cc .0) h (a .room) (λ e. c .before .if1 .left (e ∙ sym (c .before .before .before .tag-for .ensures))))
+
+pub judge-command-spec : {M : Type 1} → statement M
+judge-command-spec =
+    tie.close
+    (tie.spec
+    tag-for-requires
+    too-many-requires
+    returns
+    find-requires
+    enum-known-e
+    enum-known-row
+    judge-requires
+    returns-2
+    returns-3
+    refused-requires
+    returns-4)

@@ -1,0 +1,77 @@
+-- `marshal::response::judge_response` meets its contract: each return is the case of the definition to which its tests lead.
+-- Assumes nothing.
+use mathlib.Core.Path.{_∙_, ap}
+use Prim.Native.Nat.{ℕ}
+use denote.Ref.{now}
+use Rattle.base.specs.Said.{refuses}
+use Rattle.base.proofs.Answers.{learnt}
+use Rattle.table.specs.Dispatch.{dispatch}
+use Rattle.table.specs.Table.{saidFound}
+use Rattle.marshal.specs.Handed.{handed}
+use Rattle.marshal.specs.Write.{counted, judged}
+use Rattle.marshal.proofs.Writers.{many-entries, no-command, success-judged, error-judged}
+use borrow.Author.Needs.{needs}
+use Rattle.marshal.proofs.response.judge_response.Statement.{statement}
+use Rattle.marshal.proofs.response.judge_response.Tie as tie
+
+too-many-requires : tie.Need-too-many-requires
+too-many-requires c κs = search needs
+
+returns : tie.Need-returns
+returns c =
+    let a = c .before .before .before .before .before .before .args in
+    let h = handed (now (a .handles)) (a .sessions) (now (a .lent)) (now (a .parameters)) in
+    ap refuses (c .too-many .ensures) ∙ ap counted (many-entries dispatch (a .cc .0) (a .rc .0) h (a .room) (c .before .if1 .taken))
+
+find-requires : tie.Need-find-requires
+find-requires c κs = search needs
+
+enum-known-e : tie.Need-enum-known-e
+enum-known-e c = search needs
+
+enum-known-row : tie.Need-enum-known-row
+enum-known-row c = search needs
+
+tag-for-requires : tie.Need-tag-for-requires
+tag-for-requires c κs = search needs
+
+judge-requires : tie.Need-judge-requires
+judge-requires c κs = search needs
+
+returns-2 : tie.Need-returns-2
+returns-2 c =
+    let a = c .before .before .before .before .before .before .before .before .before .before .before .before .before .args in
+    let h = handed (now (a .handles)) (a .sessions) (now (a .lent)) (now (a .parameters)) in
+    c .judge .ensures ∙ ap (λ (tag : ℕ). judged 0 tag (c .before .before .before .before .before .row .given .0 .0 .responses) h (a .room)) (c .before .tag-for .ensures)
+    ∙ success-judged dispatch (a .cc .0) (a .rc .0) h (a .room) (c .before .before .before .before .before .before .before .before .if1 .left) (learnt saidFound (c .before .before .before .before .before .row .given .1) (c .before .before .before .before .before .before .before .find .ensures)) (c .before .before .if2 .taken)
+
+judge-error-requires : tie.Need-judge-error-requires
+judge-error-requires c κs = search needs
+
+returns-3 : tie.Need-returns-3
+returns-3 c =
+    let a = c .before .before .before .before .before .before .before .before .before .args in
+    let h = handed (now (a .handles)) (a .sessions) (now (a .lent)) (now (a .parameters)) in
+    ap counted (no-command dispatch (a .cc .0) (a .rc .0) h (a .room) (c .before .before .before .before .if1 .left) (learnt saidFound (c .before .e .given .1) (c .before .before .before .find .ensures)))
+
+returns-4 : tie.Need-returns-4
+returns-4 c =
+    let a = c .before .before .before .before .before .before .before .before .before .before .before .before .args in
+    let h = handed (now (a .handles)) (a .sessions) (now (a .lent)) (now (a .parameters)) in
+    c .judge-error .ensures ∙ error-judged dispatch (a .cc .0) (a .rc .0) h (a .room) (c .before .before .before .before .before .before .before .if1 .left) (learnt saidFound (c .before .before .before .before .row .given .1) (c .before .before .before .before .before .before .find .ensures)) (c .before .if2 .left)
+
+pub judge-response-spec : {M : Type 1} → statement M
+judge-response-spec =
+    tie.close
+    (tie.spec
+    too-many-requires
+    returns
+    find-requires
+    enum-known-e
+    enum-known-row
+    tag-for-requires
+    judge-requires
+    returns-2
+    judge-error-requires
+    returns-3
+    returns-4)

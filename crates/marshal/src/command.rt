@@ -1,0 +1,103 @@
+// The writer of commands.
+ghost use mathlib.Core.Path.{_≡_};
+ghost use lib.ListN.{length};
+ghost use Rattle.base.specs.Answer.{saidCount};
+ghost use Rattle.table.specs.Dispatch.{dispatch};
+ghost use Rattle.frame.specs.Layout.{layoutCommand};
+ghost use Rattle.marshal.specs.Handed.{commandFrame, handed};
+ghost use Rattle.marshal.specs.Laid.{laid};
+ghost use Rattle.marshal.specs.Write.{Ready, counted, roomAfter, writeCommand};
+use crate::put::put;
+use crate::put::put_entries;
+use crate::put::put_header;
+use crate::put::put_u32;
+use crate::total::MAX_SESSIONS;
+use crate::total::judge;
+use crate::total::tag_for;
+use crate::total::too_many;
+use base::answer::Count;
+use base::code::TpmCc;
+use base::code::TpmSt;
+use frame::session::Entries;
+use table::dispatch::find;
+use table::row::Found;
+
+// The total, or the first refusal.
+fn judge_command(
+    tag: TpmSt,
+    cc: TpmCc,
+    handles: &[u8],
+    sessions: Entries,
+    lent: &[u8],
+    parameters: &[u8],
+    room: usize,
+) -> Count
+    ensures { λ r. ⌜ saidCount r ≡ counted (writeCommand dispatch (tag .0) (cc .0) (handed (now (handles .entry)) sessions (now (lent .entry)) (now (parameters .entry))) room) ⌝ }
+{
+    if tag.0 == tag_for(sessions.count) {
+        if MAX_SESSIONS < sessions.count {
+            return Count::Refused(too_many(sessions.count));
+        }
+        return match find(cc) {
+            Found::Refused(e) => Count::Refused(e),
+            Found::Is(row) => judge(
+                true,
+                tag.0,
+                row.handles,
+                handles,
+                sessions,
+                lent,
+                parameters,
+                room,
+            ),
+        };
+    }
+    Count::Refused(tag.refused(0))
+}
+
+// Lays out a command that was judged.
+fn lay_command(
+    tag: TpmSt,
+    cc: TpmCc,
+    handles: &[u8],
+    sessions: Entries,
+    lent: &[u8],
+    parameters: &[u8],
+    total: usize,
+    room: &mut [u8],
+)
+    requires { ⌜ Ready 4 (tag .0) (handed (now handles) sessions (now lent) (now parameters)) total (length (now room)) ⌝ }
+    ensures { λ _. ⌜ now (room .exit) ≡ laid 0 (layoutCommand (commandFrame (tag .0) (cc .0) (handed (now (handles .entry)) sessions (now (lent .entry)) (now (parameters .entry))))) (now (room .entry)) ⌝ }
+{
+    let at = put_header(tag.0, total as u32, cc.0, room);
+    let behind = put(handles, at, room);
+    if sessions.count == 0 {
+        put(parameters, behind, room);
+        return;
+    }
+    let size = total - behind - 4 - parameters.len();
+    let from = put_u32(size as u32, behind, room);
+    let to = put_entries(true, sessions, lent, from, room);
+    put(parameters, to, room);
+}
+
+// Writes a command to the start of the room, and answers how many bytes it has. Nothing is written before all is judged.
+pub fn write(
+    tag: TpmSt,
+    cc: TpmCc,
+    handles: &[u8],
+    sessions: Entries,
+    lent: &[u8],
+    parameters: &[u8],
+    room: &mut [u8],
+) -> Count
+    ensures answer { λ r. ⌜ saidCount r ≡ counted (writeCommand dispatch (tag .0) (cc .0) (handed (now (handles .entry)) sessions (now (lent .entry)) (now (parameters .entry))) (length (now (room .entry)))) ⌝ }
+    ensures bytes { λ r. ⌜ now (room .exit) ≡ roomAfter (now (room .entry)) (writeCommand dispatch (tag .0) (cc .0) (handed (now (handles .entry)) sessions (now (lent .entry)) (now (parameters .entry))) (length (now (room .entry)))) ⌝ }
+{
+    let judged = judge_command(tag, cc, handles, sessions, lent, parameters, room.len());
+    let Count::Is(total) = judged else {
+        return judged;
+    };
+    lay_command(tag, cc, handles, sessions, lent, parameters, total, room);
+    judged
+}

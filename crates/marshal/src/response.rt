@@ -1,0 +1,133 @@
+// The writer of responses.
+ghost use mathlib.Core.Path.{_≡_};
+ghost use mathlib.Core.List.{[], _∷_};
+ghost use lib.ListN.{length};
+ghost use Rattle.base.specs.Answer.{saidCount};
+ghost use Rattle.base.specs.Said.{given, needs};
+ghost use Rattle.rc.specs.Code.{readCode};
+ghost use Rattle.table.specs.Dispatch.{dispatch};
+ghost use Rattle.frame.specs.Layout.{layoutResponse};
+ghost use Rattle.marshal.specs.Handed.{handed, successFrame, tagFor};
+ghost use Rattle.marshal.specs.Laid.{laid};
+ghost use Rattle.marshal.specs.Write.{Ready, counted, roomAfter, writeError, writeResponse};
+use crate::put::put;
+use crate::put::put_entries;
+use crate::put::put_header;
+use crate::put::put_u32;
+use crate::total::HEADER_SIZE;
+use crate::total::MAX_SESSIONS;
+use crate::total::PLAIN;
+use crate::total::SESSIONS;
+use crate::total::fits;
+use crate::total::judge;
+use crate::total::tag_for;
+use crate::total::too_many;
+use base::answer::Count;
+use base::code::TpmCc;
+use base::code::TpmRc;
+use base::code::TpmSt;
+use frame::session::Entries;
+use rc::code::Answer;
+use rc::code::read;
+use table::dispatch::find;
+use table::row::Found;
+
+// A code other than success, with so many sessions.
+fn judge_error(rc: TpmRc, count: usize, room: usize) -> Count
+    ensures { λ r. ⌜ saidCount r ≡ needs (given (readCode (rc .0))) (5 ∷ 0 ∷ rc .0 ∷ []) (counted (writeError (rc .0) count room)) ⌝ }
+{
+    match read(rc) {
+        Answer::Refused(_) => Count::Refused(rc.refused(0)),
+        Answer::Code(_) => {
+            if count == 0 {
+                return fits(HEADER_SIZE, room);
+            }
+            Count::Refused(TpmSt(SESSIONS).refused(0))
+        }
+    }
+}
+
+// The total, or the first refusal.
+fn judge_response(
+    rc: TpmRc,
+    cc: TpmCc,
+    handles: &[u8],
+    sessions: Entries,
+    lent: &[u8],
+    parameters: &[u8],
+    room: usize,
+) -> Count
+    ensures { λ r. ⌜ saidCount r ≡ counted (writeResponse dispatch (cc .0) (rc .0) (handed (now (handles .entry)) sessions (now (lent .entry)) (now (parameters .entry))) room) ⌝ }
+{
+    if MAX_SESSIONS < sessions.count {
+        return Count::Refused(too_many(sessions.count));
+    }
+    match find(cc) {
+        Found::Refused(e) => Count::Refused(e),
+        Found::Is(row) => {
+            if rc.0 == 0 {
+                let tag = tag_for(sessions.count);
+                return judge(
+                    false,
+                    tag,
+                    row.responses,
+                    handles,
+                    sessions,
+                    lent,
+                    parameters,
+                    room,
+                );
+            }
+            judge_error(rc, sessions.count, room)
+        }
+    }
+}
+
+// Lays out a success response that was judged.
+fn lay_success(
+    handles: &[u8],
+    sessions: Entries,
+    lent: &[u8],
+    parameters: &[u8],
+    total: usize,
+    room: &mut [u8],
+)
+    requires { ⌜ Ready 0 (tagFor (sessions .count)) (handed (now handles) sessions (now lent) (now parameters)) total (length (now room)) ⌝ }
+    ensures { λ _. ⌜ now (room .exit) ≡ laid 0 (layoutResponse (successFrame (handed (now (handles .entry)) sessions (now (lent .entry)) (now (parameters .entry))))) (now (room .entry)) ⌝ }
+{
+    let at = put_header(tag_for(sessions.count), total as u32, 0, room);
+    let behind = put(handles, at, room);
+    if sessions.count == 0 {
+        put(parameters, behind, room);
+        return;
+    }
+    let from = put_u32(parameters.len() as u32, behind, room);
+    let to = put(parameters, from, room);
+    put_entries(false, sessions, lent, to, room);
+}
+
+// Writes a response to the command of a code to the start of the room, and answers how many bytes it has. Nothing is written
+// before all is judged.
+pub fn write(
+    rc: TpmRc,
+    cc: TpmCc,
+    handles: &[u8],
+    sessions: Entries,
+    lent: &[u8],
+    parameters: &[u8],
+    room: &mut [u8],
+) -> Count
+    ensures answer { λ r. ⌜ saidCount r ≡ counted (writeResponse dispatch (cc .0) (rc .0) (handed (now (handles .entry)) sessions (now (lent .entry)) (now (parameters .entry))) (length (now (room .entry)))) ⌝ }
+    ensures bytes { λ r. ⌜ now (room .exit) ≡ roomAfter (now (room .entry)) (writeResponse dispatch (cc .0) (rc .0) (handed (now (handles .entry)) sessions (now (lent .entry)) (now (parameters .entry))) (length (now (room .entry)))) ⌝ }
+{
+    let judged = judge_response(rc, cc, handles, sessions, lent, parameters, room.len());
+    let Count::Is(total) = judged else {
+        return judged;
+    };
+    if rc.0 == 0 {
+        lay_success(handles, sessions, lent, parameters, total, room);
+        return judged;
+    }
+    put_header(PLAIN, HEADER_SIZE as u32, rc.0, room);
+    judged
+}
