@@ -297,13 +297,19 @@ pub fn cast_prefix_tail_mut(s: &mut [u8]) -> &mut [u8]
 
 // ---- the full check
 
-// Whether it passes: areas and walk stand in `parts` alone.
 pub fn validate(s: &[u8]) -> Outcome
     ensures { λ r. ⌜ saidOutcome r ≡ done (readCommand dispatch commandCodes (now (s .entry))) ⌝ }
 {
-    match parts(s) {
-        CommandRead::Refused(e) => Outcome::Refused(e),
-        CommandRead::Is(_) => Outcome::Done,
+    match cast_areas(s) {
+        Divided::Refused(e) => Outcome::Refused(e),
+        Divided::Is(a) => {
+            let from = a.from;
+            let to = a.to;
+            match walk(true, &s[..to], from) {
+                Walked::Refused(e) => Outcome::Refused(e),
+                Walked::Is(_) => Outcome::Done,
+            }
+        }
     }
 }
 

@@ -269,13 +269,15 @@ fn areas(cc: TpmCc, s: &[u8]) -> Divided
     }
 }
 
-// Whether it passes: areas and walk stand in `parts` alone.
 pub fn validate(cc: TpmCc, s: &[u8]) -> Outcome
     ensures { λ r. ⌜ saidOutcome r ≡ done (readResponse dispatch (cc .0) (now (s .entry))) ⌝ }
 {
-    match parts(cc, s) {
-        ResponseRead::Refused(e) => Outcome::Refused(e),
-        ResponseRead::Is(_) => Outcome::Done,
+    match areas(cc, s) {
+        Divided::Refused(e) => Outcome::Refused(e),
+        Divided::Is(a) => match walk(false, s, a.to) {
+            Walked::Refused(e) => Outcome::Refused(e),
+            Walked::Is(_) => Outcome::Done,
+        },
     }
 }
 
