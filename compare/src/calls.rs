@@ -1,14 +1,75 @@
 //! The calls of the proved library, as `crates/capi` exports them: the only unsafe code of the driver.
 //!
 //! One convention for all: bytes and their length go in, the refusal's number comes out (0: an answer), and the lent
-//! array takes the answer's numbers or the refusal's fields. Bytes in an array go in without their length.
+//! array takes the answer's numbers or the refusal's fields. Bytes in an array go in without their length. All parts of a
+//! frame come by value, with the number before them, and the writers take the sessions in the record that is among them.
 
 /// The lent array.
 pub type Out = [u64; 8];
 
-/// A second lent array, of the calls that give all parts of a frame: for each of the first three entries handle, nonce's
-/// place, nonce's length, attributes, HMAC's place and HMAC's length, zeros where there is no entry.
-pub type Entries = [u64; 18];
+/// A part of a frame, by its start and its end.
+#[repr(C)]
+#[derive(Clone, Copy, Debug, Default, PartialEq, Eq)]
+pub struct Span {
+    pub from: usize,
+    pub to: usize,
+}
+
+/// A nonce or an HMAC, by its place and its length.
+#[repr(C)]
+#[derive(Clone, Copy, Debug, Default, PartialEq, Eq)]
+pub struct Field {
+    pub at: usize,
+    pub size: u16,
+}
+
+/// An entry of an authorization area; that of a response has no handle.
+#[repr(C)]
+#[derive(Clone, Copy, Debug, Default, PartialEq, Eq)]
+pub struct Session {
+    pub handle: u32,
+    pub nonce: Field,
+    pub attributes: u8,
+    pub hmac: Field,
+}
+
+/// How many entries there are, and the first three: zeros where there is none.
+#[repr(C)]
+#[derive(Clone, Copy, Debug, Default, PartialEq, Eq)]
+pub struct Sessions {
+    pub count: usize,
+    pub three: [Session; 3],
+}
+
+/// All parts of a frame; its code is a command code or a response code.
+#[repr(C)]
+#[derive(Clone, Copy, Debug, Default, PartialEq, Eq)]
+pub struct Frame {
+    pub tag: u16,
+    pub code: u32,
+    pub handles: Span,
+    pub auth: Span,
+    pub parameters: Span,
+    pub sessions: Sessions,
+}
+
+/// The refusal's number, and the parts where it is 0; else they are zeros.
+#[repr(C)]
+#[derive(Clone, Copy, Debug, Default, PartialEq, Eq)]
+pub struct Parts {
+    pub refusal: u32,
+    pub frame: Frame,
+}
+
+/// What a writer takes beside the tag or the code: handle bytes, sessions, the bytes that their places point into, and
+/// parameter bytes.
+#[derive(Clone, Copy)]
+pub struct Handed<'a> {
+    pub handles: &'a [u8],
+    pub sessions: Sessions,
+    pub lent: &'a [u8],
+    pub parameters: &'a [u8],
+}
 
 /// A slice as C takes it: where it starts, and its length.
 trait Lent {
@@ -89,7 +150,6 @@ calls! {
     pub fn command_handles([s: &[u8]]);
     pub fn command_auth_area([s: &[u8]]);
     pub fn command_parameters([s: &[u8]]);
-    pub fn command_parts([s: &[u8]], entries: &mut Entries);
 
     pub fn response_cast([s: &[u8]]);
     pub fn response_cast_prefix([s: &[u8]]);
@@ -97,7 +157,60 @@ calls! {
     pub fn response_rc([s: &[u8]]);
     pub fn response_set_rc([s: &mut [u8]], code: u32);
     pub fn response_body([s: &[u8]]);
-    pub fn response_parts(cc: u32, [s: &[u8]], entries: &mut Entries);
+}
+
+// ---- all parts by value, and the writers
+
+pub fn command_parts(s: &[u8], out: &mut Out) -> Parts {
+    unsafe extern "C" {
+        fn skein_command_parts(s: *const u8, len: usize, out: &mut Out) -> Parts;
+    }
+    let (start, len) = s.lent();
+    // SAFETY: as above.
+    unsafe { skein_command_parts(start, len, out) }
+}
+
+pub fn response_parts(cc: u32, s: &[u8], out: &mut Out) -> Parts {
+    unsafe extern "C" {
+        fn skein_response_parts(cc: u32, s: *const u8, len: usize, out: &mut Out) -> Parts;
+    }
+    let (start, len) = s.lent();
+    // SAFETY: as above.
+    unsafe { skein_response_parts(cc, start, len, out) }
+}
+
+/// Makes a safe function of a writer, which takes a number and the command's code before what it is handed.
+macro_rules! writers {
+    ($($name:ident = $call:ident($number:ident: $n:ty);)*) => {$(
+        pub fn $name($number: $n, cc: u32, given: Handed, room: &mut [u8], out: &mut Out) -> u32 {
+            unsafe extern "C" {
+                fn $call(
+                    $number: $n,
+                    cc: u32,
+                    handles: *const u8,
+                    handles_len: usize,
+                    sessions: Sessions,
+                    lent: *const u8,
+                    lent_len: usize,
+                    parameters: *const u8,
+                    parameters_len: usize,
+                    room: *mut u8,
+                    room_len: usize,
+                    out: &mut Out,
+                ) -> u32;
+            }
+            let Handed { handles, sessions, lent, parameters } = given;
+            let ((handles, h), (lent, l), (parameters, p)) = (handles.lent(), lent.lent(), parameters.lent());
+            let (room, r) = room.lent();
+            // SAFETY: as above; the room is borrowed apart from all else.
+            unsafe { $call($number, cc, handles, h, sessions, lent, l, parameters, p, room, r, out) }
+        }
+    )*};
+}
+
+writers! {
+    command_write = skein_command_write(tag: u16);
+    response_write = skein_response_write(rc: u32);
 }
 
 /// The data of a fixed buffer, an array as long as the capacity, and the calls of that capacity.
