@@ -26,6 +26,8 @@ use Rattle.base.proofs.field.write_u16.Kinds as write-u16-kinds
 use Rattle.base.proofs.field.write_u16.Reads as write-u16-reads
 use Rattle.base.proofs.field.write_u32.Kinds as write-u32-kinds
 use Rattle.base.proofs.field.write_u32.Reads as write-u32-reads
+use Rattle.base.proofs.field.write_bytes.Kinds as write-bytes-kinds
+use Rattle.base.proofs.field.write_bytes.Reads as write-bytes-reads
 use Rattle.base.proofs.part.behind.Kinds as behind-kinds
 use Rattle.base.proofs.part.behind.Reads as behind-reads
 use Rattle.base.proofs.part.part.Kinds as part-kinds
@@ -62,6 +64,9 @@ write-u16 κs a x y v w p q = (saidOutcome-injective x y (p .0 ∙ sym (q .0)), 
 
 write-u32 : Single 1 write-u32-kinds.ps write-u32-kinds.r write-u32-reads.Post
 write-u32 κs a x y v w p q = (saidOutcome-injective x y (p .0 ∙ sym (q .0)), λ i. ((p .1 ∙ sym (q .1)) i, (tt, (tt, tt))))
+
+write-bytes : Single 2 write-bytes-kinds.ps write-bytes-kinds.r write-bytes-reads.Post
+write-bytes κs a x y v w p q = (saidOutcome-injective x y (p .0 ∙ sym (q .0)), λ i. ((p .1 ∙ sym (q .1)) i, (tt, (tt, tt))))
 
 behind : Single 0 behind-kinds.ps behind-kinds.r behind-reads.Post
 behind κs a x y v w p q = (saidRange-injective x y (p ∙ sym q), refl)

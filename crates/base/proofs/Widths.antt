@@ -1,15 +1,15 @@
 -- What every width of field shares: each law is over the width w, and the proofs of the functions cite it.
 -- Assumes nothing.
 use mathlib.Core.Path.{_≡_, sym, ap}
-use mathlib.Core.List.{List, [], _∷_}
-use Prim.Native.Nat.{ℕ, _-_, _≤_, _<_}
+use mathlib.Core.List.{List, [], _∷_, _++_}
+use Prim.Native.Nat.{ℕ, _+_, _-_, _≤_, _<_}
 use native.Mathlib.Omega.{arith}
 use borrow.Author.Tests.{le-leb, lt-leb}
-use lib.ListN.{length}
+use lib.ListN.{length, take, drop}
 use lib.Seq.{sets}
 use Rattle.base.specs.Bytes.{number, bytes}
 use Rattle.base.specs.Said.{gives, refuses, done, after}
-use Rattle.base.specs.Field.{readField, writeField}
+use Rattle.base.specs.Field.{readField, writeField, writeBytes}
 use Rattle.base.proofs.Bytes.{length-bytes}
 use Rattle.base.proofs.Lists.{span, take-drop-span, stored}
 
@@ -34,3 +34,22 @@ module _ (w place : ℕ) (s : List ℕ) where
       simp (le-leb w (length s - place) h),
       simp (le-leb w (length s - place) h) (rw e (rw length-bytes at (stored s place (bytes w n) (rw length-bytes h) k))),
     )
+
+-- ---- bytes
+
+module _ (place : ℕ) (t s : List ℕ) where
+  pub bytes-short : (left : ℕ) → left ≡ length s - place → left < length t
+      → (refuses (9 ∷ place ∷ length t ∷ left ∷ []) ≡ done (writeBytes place t s)) × (s ≡ after s (writeBytes place t s))
+  bytes-short left e h = (
+    simp (lt-leb (length t) (length s - place) (omega arith)) (ap (λ (k : ℕ). refuses (9 ∷ place ∷ length t ∷ k ∷ [])) e),
+    simp (lt-leb (length t) (length s - place) (omega arith)),
+  )
+
+  module _ (later : List ℕ) (e : later ≡ take place s ++ (t ++ drop (place + length t) s)) (h : length t ≤ length s - place) where
+    pub bytes-whole : (gives tt ≡ done (writeBytes place t s)) × (later ≡ after s (writeBytes place t s))
+    bytes-whole = (simp (le-leb (length t) (length s - place) h), simp (le-leb (length t) (length s - place) h) e)
+
+  -- where there is room for them, they are put there
+  pub bytes-put : {later : List ℕ} → length t ≤ length s - place → later ≡ after s (writeBytes place t s)
+      → later ≡ take place s ++ (t ++ drop (place + length t) s)
+  bytes-put h e = rw (le-leb (length t) (length s - place) h) at e

@@ -1,4 +1,4 @@
--- Reading and writing w bytes at a place: what is answered, and what the bytes are later. The refusals are those of
+-- Reading and writing a number of w bytes at a place, and writing bytes: what is answered, and what the bytes are later. The refusals are those of
 -- document 01 at a place: 1(place,w,left) for a read, 9(place,w,left) for a write, left counted from the place, 0 if none.
 -- Assumes nothing: these are definitions.
 use Prim.Native.Nat.{ℕ, _+_, _-_}
@@ -17,3 +17,9 @@ abbrev pub writeField : ℕ → ℕ → ℕ → List ℕ → Said (List ℕ)
 writeField w place n s =
     needs (leb w (length s - place)) (9 ∷ place ∷ w ∷ (length s - place) ∷ [])
     (gives (take place s ++ (bytes w n ++ drop (place + w) s)))
+
+-- the same of any bytes, put at a place of others, which stay around it
+abbrev pub writeBytes : ℕ → List ℕ → List ℕ → Said (List ℕ)
+writeBytes place t s =
+    needs (leb (length t) (length s - place)) (9 ∷ place ∷ length t ∷ (length s - place) ∷ [])
+    (gives (take place s ++ (t ++ drop (place + length t) s)))

@@ -5,10 +5,13 @@ ghost use mathlib.Core.List.{[], _∷_};
 ghost use Rattle.base.specs.Error.{numbered};
 use crate::error::TpmError;
 
+#[repr(C)]
 pub struct TpmSt(pub u16);
 
+#[repr(C)]
 pub struct TpmCc(pub u32);
 
+#[repr(C)]
 pub struct TpmRc(pub u32);
 
 impl TpmSt {

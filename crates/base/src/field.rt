@@ -1,12 +1,12 @@
-// Big-endian fields of 16 and 32 bits, read from and written to a place of a lent slice. Every slice and every place is
-// taken: where the bytes are not there, the answer is the refusal and nothing is touched.
+// Big-endian fields of 16 and 32 bits, read from and written to a place of a lent slice, and bytes copied to one. Every
+// slice and every place is taken: where the bytes are not there, the answer is the refusal and nothing is touched.
 ghost use mathlib.Core.Path.{_≡_};
 ghost use mathlib.Core.List.{[], _∷_};
 ghost use Prim.Native.Nat.{_-_};
 ghost use Rattle.base.specs.Bytes.{number};
 ghost use Rattle.base.specs.Said.{after, done};
 ghost use Rattle.base.specs.Answer.{saidNumber16, saidNumber32, saidOutcome};
-ghost use Rattle.base.specs.Field.{readField, writeField};
+ghost use Rattle.base.specs.Field.{readField, writeBytes, writeField};
 use crate::answer::Number16;
 use crate::answer::Number32;
 use crate::answer::Outcome;
@@ -94,5 +94,26 @@ pub fn write_u32(s: &mut [u8], place: usize, n: u32) -> Outcome
     s[place + 1] = (n / 65536 % 256) as u8;
     s[place + 2] = (n / 256 % 256) as u8;
     s[place + 3] = (n % 256) as u8;
+    Outcome::Done
+}
+
+// Copies all of t to a place of s: every copy of bytes here is this one.
+pub fn write_bytes(s: &mut [u8], place: usize, t: &[u8]) -> Outcome
+    ensures answer { λ r. ⌜ saidOutcome r ≡ done (writeBytes place (now (t .entry)) (now (s .entry))) ⌝ }
+    ensures bytes { λ r. ⌜ now (s .exit) ≡ after (now (s .entry)) (writeBytes place (now (t .entry)) (now (s .entry))) ⌝ }
+{
+    let left = left(s.len(), place);
+    if left < t.len() {
+        return Outcome::Refused(TpmError::BufferOverflow {
+            offset: place,
+            needed: t.len(),
+            available: left,
+        });
+    }
+    let mut i = 0;
+    while i < t.len() {
+        s[place + i] = t[i];
+        i += 1;
+    }
     Outcome::Done
 }

@@ -8,6 +8,7 @@ ghost use Rattle.base.specs.Parts.{IsPart, Ties, behind, placed};
 use crate::answer::Range;
 
 // A part by its start and its end.
+#[repr(C)]
 pub struct Span {
     pub from: usize,
     pub to: usize,

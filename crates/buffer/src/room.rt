@@ -10,6 +10,7 @@ ghost use Rattle.buffer.specs.View.{prefix};
 use base::answer::Count;
 use base::answer::Flag;
 use base::error::TpmError;
+use base::field::write_bytes;
 
 fn too_many(capacity: usize, size: usize) -> TpmError
     ensures { λ r. ⌜ r ≡ TpmError.TooManyBytes 0 capacity size ⌝ }
@@ -64,11 +65,7 @@ pub(crate) fn put(s: &mut [u8], place: usize, t: &[u8])
     requires { ⌜ place + length (now t) ≤ length (now s) ⌝ }
     ensures { λ _. ⌜ now (s .exit) ≡ take place (now (s .entry)) ++ (now (t .entry) ++ drop (place + length (now (t .entry))) (now (s .entry))) ⌝ }
 {
-    let mut i = 0;
-    while i < t.len() {
-        s[place + i] = t[i];
-        i += 1;
-    }
+    write_bytes(s, place, t);
 }
 
 // Puts the bytes given behind those held.

@@ -104,6 +104,8 @@ use Rattle.capi.proofs.command.skein_command_set_cc.Kinds as skein-comm
 use Rattle.capi.proofs.command.skein_command_set_cc.Reads as skein-command-set-cc-reads
 use Rattle.capi.proofs.command.skein_command_parts.Kinds as skein-command-parts-kinds
 use Rattle.capi.proofs.command.skein_command_parts.Reads as skein-command-parts-reads
+use Rattle.capi.proofs.command.skein_command_write.Kinds as skein-command-write-kinds
+use Rattle.capi.proofs.command.skein_command_write.Reads as skein-command-write-reads
 use Rattle.capi.proofs.response.skein_response_cast.Kinds as skein-response-cast-kinds
 use Rattle.capi.proofs.response.skein_response_cast.Reads as skein-response-cast-reads
 use Rattle.capi.proofs.response.skein_response_cast_prefix.Kinds as skein-response-cast-prefix-kinds
@@ -118,6 +120,8 @@ use Rattle.capi.proofs.response.skein_response_set_rc.Kinds as skein-re
 use Rattle.capi.proofs.response.skein_response_set_rc.Reads as skein-response-set-rc-reads
 use Rattle.capi.proofs.response.skein_response_parts.Kinds as skein-response-parts-kinds
 use Rattle.capi.proofs.response.skein_response_parts.Reads as skein-response-parts-reads
+use Rattle.capi.proofs.response.skein_response_write.Kinds as skein-response-write-kinds
+use Rattle.capi.proofs.response.skein_response_write.Reads as skein-response-write-reads
 
 -- two reports of one answer are one
 module _ {A : Type 0} {of : A → List ℕ} {said : Said A} {old s t : List ℕ} {r q : ℕ} where
@@ -271,8 +275,17 @@ skein-command-cc κs a x y v w p q = (status p q, λ i. (tt, (array p q i, tt)))
 skein-command-set-cc : Single 2 skein-command-set-cc-kinds.ps skein-command-set-cc-kinds.r skein-command-set-cc-reads.Post
 skein-command-set-cc κs a x y v w p q = (status (p .0) (q .0), λ i. ((p .1 ∙ sym (q .1)) i, (tt, (array (p .0) (q .0) i, tt))))
 
-skein-command-parts : Single 3 skein-command-parts-kinds.ps skein-command-parts-kinds.r skein-command-parts-reads.Post
-skein-command-parts κs a x y v w p q = (status (p .0) (q .0), λ i. (tt, ((p .1 ∙ sym (q .1)) i, (array (p .0) (q .0) i, tt))))
+skein-command-parts : Single 2 skein-command-parts-kinds.ps skein-command-parts-kinds.r skein-command-parts-reads.Post
+skein-command-parts κs a x y v w p q = (
+  λ i. record { refusal = status (p .0) (q .0) i; command = (p .1 ∙ sym (q .1)) i },
+  λ i. (tt, (array (p .0) (q .0) i, tt)),
+)
+
+skein-command-write : Single 5 skein-command-write-kinds.ps skein-command-write-kinds.r skein-command-write-reads.Post
+skein-command-write κs a x y v w p q = (
+  status (p .0) (q .0),
+  λ i. (tt, (tt, (tt, (tt, (tt, (tt, ((p .1 ∙ sym (q .1)) i, (array (p .0) (q .0) i, tt)))))))),
+)
 
 skein-response-cast : Single 2 skein-response-cast-kinds.ps skein-response-cast-kinds.r skein-response-cast-reads.Post
 skein-response-cast κs a x y v w p q = (status p q, λ i. (tt, (array p q i, tt)))
@@ -292,5 +305,14 @@ skein-response-validate κs a x y v w p q = (status p q, λ i. (tt, (tt, (array 
 skein-response-set-rc : Single 2 skein-response-set-rc-kinds.ps skein-response-set-rc-kinds.r skein-response-set-rc-reads.Post
 skein-response-set-rc κs a x y v w p q = (status (p .0) (q .0), λ i. ((p .1 ∙ sym (q .1)) i, (tt, (array (p .0) (q .0) i, tt))))
 
-skein-response-parts : Single 3 skein-response-parts-kinds.ps skein-response-parts-kinds.r skein-response-parts-reads.Post
-skein-response-parts κs a x y v w p q = (status (p .0) (q .0), λ i. (tt, (tt, ((p .1 ∙ sym (q .1)) i, (array (p .0) (q .0) i, tt)))))
+skein-response-parts : Single 2 skein-response-parts-kinds.ps skein-response-parts-kinds.r skein-response-parts-reads.Post
+skein-response-parts κs a x y v w p q = (
+  λ i. record { refusal = status (p .0) (q .0) i; response = (p .1 ∙ sym (q .1)) i },
+  λ i. (tt, (tt, (array (p .0) (q .0) i, tt))),
+)
+
+skein-response-write : Single 5 skein-response-write-kinds.ps skein-response-write-kinds.r skein-response-write-reads.Post
+skein-response-write κs a x y v w p q = (
+  status (p .0) (q .0),
+  λ i. (tt, (tt, (tt, (tt, (tt, (tt, ((p .1 ∙ sym (q .1)) i, (array (p .0) (q .0) i, tt)))))))),
+)

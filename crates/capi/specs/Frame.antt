@@ -1,14 +1,14 @@
 -- What C is given of the table and of frames, as numbers.
 -- Assumes nothing: these are definitions.
 use Prim.Native.Nat.{ℕ}
-use mathlib.Core.List.{List, [], _∷_, _++_}
+use mathlib.Core.List.{List, [], _∷_}
 use Rattle.base.specs.Answer.{Part}
-use Rattle.base.specs.Said.{Said, gives, refuses}
+use Rattle.base.specs.Parts.{span}
+use Rattle.base.specs.declared.part.Span.{Span}
 use Rattle.table.specs.declared.row.Row.{Row}
 use Rattle.frame.specs.declared.command.Command.{Command}
 use Rattle.frame.specs.declared.response.Response.{Response}
-use Rattle.frame.specs.declared.session.Entries.{Entries}
-use Rattle.frame.specs.declared.session.Session.{Session}
+use Rattle.frame.specs.Walk.{byValue}
 
 -- of a row, its handles and its response handles
 abbrev pub handleCounts : Row → List ℕ
@@ -18,23 +18,14 @@ handleCounts r = r .handles ∷ r .responses ∷ []
 abbrev pub partAndTail : ℕ → Part → List ℕ
 partAndTail all p = p .from ∷ p .to ∷ p .to ∷ all ∷ []
 
--- of a frame: tag, code, where the handles end, two areas by start and end in the order of the wire, and how many entries
-abbrev pub commandNumbers : Command → List ℕ
-commandNumbers c =
-    c .tag .0 ∷ c .cc .0 ∷ c .handles .to ∷ c .auth .from ∷ c .auth .to ∷ c .parameters .from ∷ c .parameters .to ∷ c .entries .count ∷ []
+-- what stands for the parts of a frame that was refused
+abbrev pub nowhere : Span
+nowhere = span 0 0
 
-abbrev pub responseNumbers : Response → List ℕ
-responseNumbers r =
-    r .tag .0 ∷ r .rc .0 ∷ r .handles .to ∷ r .parameters .from ∷ r .parameters .to ∷ r .auth .from ∷ r .auth .to ∷ r .entries .count ∷ []
+abbrev pub noCommand : Command
+noCommand =
+    record { tag = record { 0 = 0 }; cc = record { 0 = 0 }; handles = nowhere; auth = nowhere; parameters = nowhere; entries = byValue [] }
 
--- of an entry: handle, nonce by place and length, attributes, HMAC by place and length
-abbrev pub entryNumbers : Session → List ℕ
-entryNumbers e = e .handle ∷ e .nonce .at ∷ e .nonce .size ∷ e .attributes ∷ e .hmac .at ∷ e .hmac .size ∷ []
-
-abbrev pub entriesNumbers : Entries → List ℕ
-entriesNumbers es = entryNumbers (es .first) ++ (entryNumbers (es .second) ++ entryNumbers (es .third))
-
--- the entries of what was read; a refusal has none to report
-abbrev pub entriesOf : {A : Type 0} → (A → Entries) → Said A → List ℕ
-entriesOf of (gives a) = entriesNumbers (of a)
-entriesOf of (refuses why) = []
+abbrev pub noResponse : Response
+noResponse =
+    record { tag = record { 0 = 0 }; rc = record { 0 = 0 }; handles = nowhere; auth = nowhere; parameters = nowhere; entries = byValue [] }

@@ -7,15 +7,18 @@ ghost use Rattle.table.specs.Dispatch.{commandCodes, dispatch};
 ghost use Rattle.frame.specs.Answer.{commandByValue, whole};
 ghost use Rattle.frame.specs.Command.{authRange, castCommand, castCommandPrefix, handlesRange, parametersRange, readCommand};
 ghost use Rattle.frame.specs.Header.{readCc, setCc};
-ghost use Rattle.frame.specs.declared.command.Command.{Command};
-ghost use Rattle.capi.specs.Frame.{commandNumbers, entriesOf, partAndTail};
-ghost use Rattle.capi.specs.Out.{Reports, ends, none, one, storedOver};
-use crate::entries::EntryNumbers;
-use crate::entries::lay;
+ghost use Rattle.marshal.specs.Handed.{handed};
+ghost use Rattle.marshal.specs.Write.{counted, roomAfter, writeCommand};
+ghost use Rattle.capi.specs.Frame.{noCommand, partAndTail};
+ghost use Rattle.capi.specs.Out.{Reports, ends, none, one};
 use crate::out;
 use crate::out::Numbers;
 use base::code::TpmCc;
+use base::code::TpmSt;
+use base::part::Span;
+use frame::command::Command;
 use frame::command::CommandRead;
+use frame::session::Entries;
 
 #[no_mangle]
 pub extern "C" fn skein_command_cast(s: &[u8], out: &mut Numbers) -> u32
@@ -75,29 +78,67 @@ pub extern "C" fn skein_command_set_cc(s: &mut [u8], code: u32, out: &mut Number
     out::outcome(frame::command::set_cc(s, TpmCc(code)), out)
 }
 
-// All parts: the numbers of the frame go into the array of eight, those of its entries into the other, which a refusal leaves alone.
+// All parts by value, behind the number that the other calls return; the array takes a refusal's fields alone.
+#[repr(C)]
+pub struct CommandParts {
+    pub refusal: u32,
+    pub command: Command,
+}
+
+fn no_command() -> Command
+    ensures { λ r. ⌜ r ≡ noCommand ⌝ }
+{
+    let nowhere = Span { from: 0, to: 0 };
+    Command {
+        tag: TpmSt(0),
+        cc: TpmCc(0),
+        handles: nowhere,
+        auth: nowhere,
+        parameters: nowhere,
+        entries: Entries::new(),
+    }
+}
+
 #[no_mangle]
-pub extern "C" fn skein_command_parts(
-    s: &[u8],
-    entries: &mut EntryNumbers,
-    out: &mut Numbers,
-) -> u32
-    ensures { λ r. ⌜ Reports commandNumbers (commandByValue (now (s .entry)) (readCommand dispatch commandCodes (now (s .entry)))) (now (out .entry)) (now (out .exit)) r ⌝ }
-    ensures { λ r. ⌜ now (entries .exit) ≡ storedOver (entriesOf (λ (c : Command). c .entries) (commandByValue (now (s .entry)) (readCommand dispatch commandCodes (now (s .entry))))) (now (entries .entry)) ⌝ }
+pub extern "C" fn skein_command_parts(s: &[u8], out: &mut Numbers) -> CommandParts
+    ensures { λ r. ⌜ Reports none (commandByValue (now (s .entry)) (readCommand dispatch commandCodes (now (s .entry)))) (now (out .entry)) (now (out .exit)) (r .refusal) ⌝ }
+    ensures { λ r. ⌜ r .command ≡ after noCommand (commandByValue (now (s .entry)) (readCommand dispatch commandCodes (now (s .entry)))) ⌝ }
 {
     match frame::command::parts(s) {
-        CommandRead::Refused(e) => out::refuse(e, out),
-        CommandRead::Is(c) => {
-            lay(c.entries, entries);
-            out[0] = c.tag.0 as u64;
-            out[1] = c.cc.0 as u64;
-            out[2] = c.handles.to as u64;
-            out[3] = c.auth.from as u64;
-            out[4] = c.auth.to as u64;
-            out[5] = c.parameters.from as u64;
-            out[6] = c.parameters.to as u64;
-            out[7] = c.entries.count as u64;
-            0
-        }
+        CommandRead::Refused(e) => CommandParts {
+            refusal: out::refuse(e, out),
+            command: no_command(),
+        },
+        CommandRead::Is(command) => CommandParts {
+            refusal: 0,
+            command,
+        },
     }
+}
+
+// Writes a command to the start of the room; the sessions come in the record that is among all parts.
+#[no_mangle]
+pub extern "C" fn skein_command_write(
+    tag: u16,
+    cc: u32,
+    handles: &[u8],
+    sessions: Entries,
+    lent: &[u8],
+    parameters: &[u8],
+    room: &mut [u8],
+    out: &mut Numbers,
+) -> u32
+    ensures { λ r. ⌜ Reports one (counted (writeCommand dispatch tag cc (handed (now (handles .entry)) sessions (now (lent .entry)) (now (parameters .entry))) (length (now (room .entry))))) (now (out .entry)) (now (out .exit)) r ⌝ }
+    ensures { λ r. ⌜ now (room .exit) ≡ roomAfter (now (room .entry)) (writeCommand dispatch tag cc (handed (now (handles .entry)) sessions (now (lent .entry)) (now (parameters .entry))) (length (now (room .entry)))) ⌝ }
+{
+    let written = marshal::command::write(
+        TpmSt(tag),
+        TpmCc(cc),
+        handles,
+        sessions,
+        lent,
+        parameters,
+        room,
+    );
+    out::count(written, out)
 }

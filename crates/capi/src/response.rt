@@ -7,16 +7,19 @@ ghost use Rattle.table.specs.Dispatch.{dispatch};
 ghost use Rattle.frame.specs.Answer.{responseByValue, whole};
 ghost use Rattle.frame.specs.Header.{readRc, setRc};
 ghost use Rattle.frame.specs.Response.{bodyRange, castResponse, castResponsePrefix, readResponse};
-ghost use Rattle.frame.specs.declared.response.Response.{Response};
-ghost use Rattle.capi.specs.Frame.{entriesOf, partAndTail, responseNumbers};
-ghost use Rattle.capi.specs.Out.{Reports, ends, none, one, storedOver};
-use crate::entries::EntryNumbers;
-use crate::entries::lay;
+ghost use Rattle.marshal.specs.Handed.{handed};
+ghost use Rattle.marshal.specs.Write.{counted, roomAfter, writeResponse};
+ghost use Rattle.capi.specs.Frame.{noResponse, partAndTail};
+ghost use Rattle.capi.specs.Out.{Reports, ends, none, one};
 use crate::out;
 use crate::out::Numbers;
 use base::code::TpmCc;
 use base::code::TpmRc;
+use base::code::TpmSt;
+use base::part::Span;
+use frame::response::Response;
 use frame::response::ResponseRead;
+use frame::session::Entries;
 
 #[no_mangle]
 pub extern "C" fn skein_response_cast(s: &[u8], out: &mut Numbers) -> u32
@@ -63,29 +66,66 @@ pub extern "C" fn skein_response_body(s: &[u8], out: &mut Numbers) -> u32
 }
 
 // All parts of a response to the command of a code, as of a command.
+#[repr(C)]
+pub struct ResponseParts {
+    pub refusal: u32,
+    pub response: Response,
+}
+
+fn no_response() -> Response
+    ensures { λ r. ⌜ r ≡ noResponse ⌝ }
+{
+    let nowhere = Span { from: 0, to: 0 };
+    Response {
+        tag: TpmSt(0),
+        rc: TpmRc(0),
+        handles: nowhere,
+        auth: nowhere,
+        parameters: nowhere,
+        entries: Entries::new(),
+    }
+}
+
 #[no_mangle]
-pub extern "C" fn skein_response_parts(
-    cc: u32,
-    s: &[u8],
-    entries: &mut EntryNumbers,
-    out: &mut Numbers,
-) -> u32
-    ensures { λ r. ⌜ Reports responseNumbers (responseByValue (now (s .entry)) (readResponse dispatch cc (now (s .entry)))) (now (out .entry)) (now (out .exit)) r ⌝ }
-    ensures { λ r. ⌜ now (entries .exit) ≡ storedOver (entriesOf (λ (r : Response). r .entries) (responseByValue (now (s .entry)) (readResponse dispatch cc (now (s .entry))))) (now (entries .entry)) ⌝ }
+pub extern "C" fn skein_response_parts(cc: u32, s: &[u8], out: &mut Numbers) -> ResponseParts
+    ensures { λ r. ⌜ Reports none (responseByValue (now (s .entry)) (readResponse dispatch cc (now (s .entry)))) (now (out .entry)) (now (out .exit)) (r .refusal) ⌝ }
+    ensures { λ r. ⌜ r .response ≡ after noResponse (responseByValue (now (s .entry)) (readResponse dispatch cc (now (s .entry)))) ⌝ }
 {
     match frame::response::parts(TpmCc(cc), s) {
-        ResponseRead::Refused(e) => out::refuse(e, out),
-        ResponseRead::Is(r) => {
-            lay(r.entries, entries);
-            out[0] = r.tag.0 as u64;
-            out[1] = r.rc.0 as u64;
-            out[2] = r.handles.to as u64;
-            out[3] = r.parameters.from as u64;
-            out[4] = r.parameters.to as u64;
-            out[5] = r.auth.from as u64;
-            out[6] = r.auth.to as u64;
-            out[7] = r.entries.count as u64;
-            0
-        }
+        ResponseRead::Refused(e) => ResponseParts {
+            refusal: out::refuse(e, out),
+            response: no_response(),
+        },
+        ResponseRead::Is(response) => ResponseParts {
+            refusal: 0,
+            response,
+        },
     }
+}
+
+// Writes a response of a code to the command of another, as a command is written.
+#[no_mangle]
+pub extern "C" fn skein_response_write(
+    rc: u32,
+    cc: u32,
+    handles: &[u8],
+    sessions: Entries,
+    lent: &[u8],
+    parameters: &[u8],
+    room: &mut [u8],
+    out: &mut Numbers,
+) -> u32
+    ensures { λ r. ⌜ Reports one (counted (writeResponse dispatch cc rc (handed (now (handles .entry)) sessions (now (lent .entry)) (now (parameters .entry))) (length (now (room .entry))))) (now (out .entry)) (now (out .exit)) r ⌝ }
+    ensures { λ r. ⌜ now (room .exit) ≡ roomAfter (now (room .entry)) (writeResponse dispatch cc rc (handed (now (handles .entry)) sessions (now (lent .entry)) (now (parameters .entry))) (length (now (room .entry)))) ⌝ }
+{
+    let written = marshal::response::write(
+        TpmRc(rc),
+        TpmCc(cc),
+        handles,
+        sessions,
+        lent,
+        parameters,
+        room,
+    );
+    out::count(written, out)
 }

@@ -42,6 +42,7 @@ use table::row::Found;
 use table::tag::tag_known;
 
 // A passing command by value: its areas by where they stand, its entries by their count and the first three.
+#[repr(C)]
 pub struct Command {
     pub tag: TpmSt,
     pub cc: TpmCc,

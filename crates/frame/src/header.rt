@@ -19,12 +19,12 @@ use base::field::write_u16;
 use table::tag::tag_known;
 
 // The bytes of a header.
-pub(crate) const HEADER_SIZE: usize = 10;
+pub const HEADER_SIZE: usize = 10;
 
 // The tags of a frame without sessions and of one with them.
-pub(crate) const PLAIN: u16 = 0x8001;
+pub const PLAIN: u16 = 0x8001;
 
-pub(crate) const SESSIONS: u16 = 0x8002;
+pub const SESSIONS: u16 = 0x8002;
 
 // The refusal of bytes that have no whole header.
 pub(crate) fn short(len: usize) -> TpmError

@@ -46,12 +46,13 @@ use table::dispatch::find;
 use table::row::Found;
 
 // A passing response by value: its areas by where they stand, its entries by their count and the first three.
+#[repr(C)]
 pub struct Response {
     pub tag: TpmSt,
     pub rc: TpmRc,
     pub handles: Span,
-    pub parameters: Span,
     pub auth: Span,
+    pub parameters: Span,
     pub entries: Entries,
 }
 
@@ -296,13 +297,13 @@ pub fn parts(cc: TpmCc, s: &[u8]) -> ResponseRead
                     from: HEADER_SIZE,
                     to: a.handles,
                 },
-                parameters: Span {
-                    from: a.from,
-                    to: a.to,
-                },
                 auth: Span {
                     from: a.to,
                     to: s.len(),
+                },
+                parameters: Span {
+                    from: a.from,
+                    to: a.to,
                 },
                 entries,
             }),

@@ -4,15 +4,17 @@ ghost use mathlib.Core.List.{[]};
 ghost use Rattle.frame.specs.Walk.{byValue, none};
 
 // The most entries that an area has (Part 2, MAX_SESSION_NUM).
-pub(crate) const MAX_SESSIONS: usize = 3;
+pub const MAX_SESSIONS: usize = 3;
 
 // Bytes by their place and their count.
+#[repr(C)]
 pub struct Field {
     pub at: usize,
     pub size: u16,
 }
 
 // An entry of a command; an entry of a response has no handle, and 0 stands there.
+#[repr(C)]
 pub struct Session {
     pub handle: u32,
     pub nonce: Field,
@@ -34,6 +36,7 @@ impl Session {
 }
 
 // How many entries an area has, and the first three.
+#[repr(C)]
 pub struct Entries {
     pub count: usize,
     pub first: Session,
@@ -42,7 +45,7 @@ pub struct Entries {
 }
 
 impl Entries {
-    pub(crate) fn new() -> Self
+    pub fn new() -> Self
         ensures { λ r. ⌜ r ≡ byValue [] ⌝ }
     {
         Entries {

@@ -11,7 +11,6 @@ use crate::put::put;
 use crate::put::put_entries;
 use crate::put::put_header;
 use crate::put::put_u32;
-use crate::total::MAX_SESSIONS;
 use crate::total::judge;
 use crate::total::tag_for;
 use crate::total::too_many;
@@ -19,6 +18,7 @@ use base::answer::Count;
 use base::code::TpmCc;
 use base::code::TpmSt;
 use frame::session::Entries;
+use frame::session::MAX_SESSIONS;
 use table::dispatch::find;
 use table::row::Found;
 

@@ -12,6 +12,7 @@ ghost use Rattle.frame.specs.Layout.{layoutEntries, layoutEntry};
 ghost use Rattle.frame.specs.Parts.{entriesIn, entriesOf, entryIn, fieldIn};
 ghost use Rattle.marshal.specs.Laid.{Puts, layoutSigned};
 ghost use Rattle.marshal.specs.Write.{fieldThere, sessionThere, sessionsThere};
+use base::field::write_bytes;
 use base::field::write_u16;
 use base::field::write_u32;
 use frame::session::Entries;
@@ -23,12 +24,8 @@ pub(crate) fn put(t: &[u8], place: usize, room: &mut [u8]) -> usize
     requires { ⌜ place + length (now t) ≤ length (now room) ⌝ }
     ensures { λ r. ⌜ Puts place (now (t .entry)) (now (room .entry)) r (now (room .exit)) ⌝ }
 {
-    let mut i = 0;
-    while i < t.len() {
-        room[place + i] = t[i];
-        i += 1;
-    }
-    place + i
+    write_bytes(room, place, t);
+    place + t.len()
 }
 
 pub(crate) fn put_u16(n: u16, place: usize, room: &mut [u8]) -> usize

@@ -15,18 +15,13 @@ ghost use Rattle.marshal.specs.Write.{capped, entriesLength, entryLength
 use base::answer::Count;
 use base::error::TpmError;
 use base::field::left;
+use frame::header::HEADER_SIZE;
+use frame::header::PLAIN;
+use frame::header::SESSIONS;
 use frame::session::Entries;
 use frame::session::Field;
+use frame::session::MAX_SESSIONS;
 use frame::session::Session;
-
-// The bytes of a header, the two tags and the most sessions, as in frame.
-pub(crate) const HEADER_SIZE: usize = 10;
-
-pub(crate) const PLAIN: u16 = 0x8001;
-
-pub(crate) const SESSIONS: u16 = 0x8002;
-
-pub(crate) const MAX_SESSIONS: usize = 3;
 
 // The largest sum, and the largest that a size field holds.
 const LARGEST: usize = 18446744073709551615;

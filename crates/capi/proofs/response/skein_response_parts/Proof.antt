@@ -1,13 +1,11 @@
--- `capi::response::skein_response_parts` meets its contract: in each arm the answer is its variant; the entries are laid down where there are some.
+-- `capi::response::skein_response_parts` meets its contract: in each arm the answer is its variant, and a refusal stands before no parts.
 -- Assumes nothing.
 use mathlib.Core.Path.{ap, _∙_}
-use denote.Ref.{now}
-use Rattle.base.specs.Said.{Said}
+use Rattle.base.specs.Said.{after}
 use Rattle.base.proofs.Answers.{learnt}
-use Rattle.frame.specs.declared.response.Response.{Response}
 use Rattle.frame.specs.Answer.{saidResponse}
-use Rattle.capi.specs.Frame.{responseNumbers, entriesOf}
-use Rattle.capi.specs.Out.{storedOver}
+use Rattle.capi.specs.Frame.{noResponse}
+use Rattle.capi.specs.Out.{none}
 use Rattle.capi.proofs.Reported.{answered, refused}
 use borrow.Author.Needs.{needs}
 use Rattle.capi.proofs.response.skein_response_parts.Statement.{statement}
@@ -22,70 +20,22 @@ enum-known-e c = search needs
 refuse-requires : tie.Need-refuse-requires
 refuse-requires c κs = search needs
 
-enum-known-r : tie.Need-enum-known-r
-enum-known-r c = search needs
+no-response-requires : tie.Need-no-response-requires
+no-response-requires c κs = search needs
 
-lay-requires : tie.Need-lay-requires
-lay-requires c κs = search needs
-
-cast-out : tie.Need-cast-out
-cast-out c = search needs
-
-element-write-out : tie.Need-element-write-out
-element-write-out c = search needs
-
-cast-out-2 : tie.Need-cast-out-2
-cast-out-2 c = search needs
-
-element-write-out-2 : tie.Need-element-write-out-2
-element-write-out-2 c = search needs
-
-element-write-out-3 : tie.Need-element-write-out-3
-element-write-out-3 c = search needs
-
-element-write-out-4 : tie.Need-element-write-out-4
-element-write-out-4 c = search needs
-
-element-write-out-5 : tie.Need-element-write-out-5
-element-write-out-5 c = search needs
-
-element-write-out-6 : tie.Need-element-write-out-6
-element-write-out-6 c = search needs
-
-element-write-out-7 : tie.Need-element-write-out-7
-element-write-out-7 c = search needs
-
-element-write-out-8 : tie.Need-element-write-out-8
-element-write-out-8 c = search needs
+enum-known-response : tie.Need-enum-known-response
+enum-known-response c = search needs
 
 returns : tie.Need-returns
 returns c =
-    let read = learnt saidResponse (c .before .before .before .e .given .1) (c .before .before .before .before .before .parts .ensures) in
-    (refused responseNumbers _ _ _ _ _ read (c .refuse .ensures), ap (λ (said : Said Response). storedOver (entriesOf (λ (x : Response). x .entries) said) (now (c .before .before .before .before .before .before .before .args .entries))) read)
+    let read = learnt saidResponse (c .before .before .before .before .e .given .1) (c .before .before .before .before .before .before .parts .ensures) in
+    (refused none _ _ _ _ _ read (c .before .refuse .ensures), c .no-response .ensures ∙ ap (after noResponse) read)
 
 returns-2 : tie.Need-returns-2
 returns-2 c =
-    let read = learnt saidResponse (c .before .before .before .before .before .r .given .1) (c .before .before .before .before .before .before .before .parts .ensures) in
-    (answered responseNumbers _ _ _ read, c .before .before .lay .ensures ∙ ap (λ (said : Said Response). storedOver (entriesOf (λ (x : Response). x .entries) said) (now (c .before .before .before .before .before .before .before .before .before .args .entries))) read)
+    let read = learnt saidResponse (c .before .response .given .1) (c .before .before .before .parts .ensures) in
+    (answered none _ _ _ read, ap (after noResponse) read)
 
 pub skein-response-parts-spec : {M : Type 1} → statement M
 skein-response-parts-spec =
-    tie.close
-    (tie.spec
-    parts-requires
-    enum-known-e
-    refuse-requires
-    enum-known-r
-    lay-requires
-    cast-out
-    element-write-out
-    cast-out-2
-    element-write-out-2
-    element-write-out-3
-    element-write-out-4
-    element-write-out-5
-    element-write-out-6
-    element-write-out-7
-    element-write-out-8
-    returns
-    returns-2)
+    tie.close (tie.spec parts-requires enum-known-e refuse-requires no-response-requires enum-known-response returns returns-2)
