@@ -1,5 +1,6 @@
 // A line's call, by its name.
 use crate::frames;
+use crate::records;
 use crate::show;
 use crate::text;
 use crate::told::Told;
@@ -37,23 +38,18 @@ fn ran(s: &[u8]) -> bool {
 
 fn answered(name: &[u8], bytes: &mut [u8], first: usize, second: usize) -> bool {
     let mut out = [0u64; 8];
-    let mut entries = [0u64; 18];
-    let told = call(name, bytes, first, second, &mut out, &mut entries);
+    if records::answered(name, bytes, first, second) {
+        return true;
+    }
+    let told = call(name, bytes, first, second, &mut out);
     if told.known {
-        show::answer(told, out, entries, bytes);
+        show::answer(told, out, bytes);
     }
     told.known
 }
 
 // The call of that name, on the bytes and the two numbers of the line.
-fn call(
-    name: &[u8],
-    bytes: &mut [u8],
-    first: usize,
-    second: usize,
-    out: &mut [u64; 8],
-    entries: &mut [u64; 18],
-) -> Told {
+fn call(name: &[u8], bytes: &mut [u8], first: usize, second: usize, out: &mut [u64; 8]) -> Told {
     let told = view(name, bytes, first, out);
     if told.known {
         return told;
@@ -70,7 +66,7 @@ fn call(
     if told.known {
         return told;
     }
-    frames::call(name, bytes, first, out, entries)
+    frames::call(name, bytes, first, out)
 }
 
 fn field(name: &[u8], bytes: &mut [u8], place: usize, value: usize, out: &mut [u64; 8]) -> Told {
@@ -84,13 +80,19 @@ fn field(name: &[u8], bytes: &mut [u8], place: usize, value: usize, out: &mut [u
         return unknown();
     }
     if check::same(name, b"write_u32") {
-        return wrote(capi::field::skein_write_u32(bytes, place, value as u32, out));
+        return wrote(
+            0,
+            capi::field::skein_write_u32(bytes, place, value as u32, out),
+        );
     }
     if value > 65535 {
         return unknown();
     }
     if check::same(name, b"write_u16") {
-        return wrote(capi::field::skein_write_u16(bytes, place, value as u16, out));
+        return wrote(
+            0,
+            capi::field::skein_write_u16(bytes, place, value as u16, out),
+        );
     }
     unknown()
 }

@@ -1,24 +1,17 @@
 // The calls on whole frames, and on the tags, the codes and the table that frames are checked by.
 use crate::told::Told;
 use crate::told::filled;
-use crate::told::parts;
 use crate::told::read;
 use crate::told::unknown;
 use crate::told::wrote;
 
 // The call of that name, on the bytes and the first number of the line: a tag or a code, where one is asked for.
-pub(crate) fn call(
-    name: &[u8],
-    bytes: &mut [u8],
-    number: usize,
-    out: &mut [u64; 8],
-    entries: &mut [u64; 18],
-) -> Told {
+pub(crate) fn call(name: &[u8], bytes: &mut [u8], number: usize, out: &mut [u64; 8]) -> Told {
     let told = header(name, bytes, out);
     if told.known {
         return told;
     }
-    let told = command(name, bytes, out, entries);
+    let told = command(name, bytes, out);
     if told.known {
         return told;
     }
@@ -37,7 +30,7 @@ pub(crate) fn call(
     if number > 4294967295 {
         return unknown();
     }
-    let told = with_code(name, bytes, number as u32, out, entries);
+    let told = with_code(name, bytes, number as u32, out);
     if told.known || number > 65535 {
         return told;
     }
@@ -49,18 +42,12 @@ fn with_tag(name: &[u8], bytes: &mut [u8], tag: u16, out: &mut [u64; 8]) -> Told
         return read(1, capi::dispatch::skein_tag_known(tag, out));
     }
     if check::same(name, b"frame_set_tag") {
-        return wrote(capi::header::skein_frame_set_tag(bytes, tag, out));
+        return wrote(0, capi::header::skein_frame_set_tag(bytes, tag, out));
     }
     unknown()
 }
 
-fn with_code(
-    name: &[u8],
-    bytes: &mut [u8],
-    code: u32,
-    out: &mut [u64; 8],
-    entries: &mut [u64; 18],
-) -> Told {
+fn with_code(name: &[u8], bytes: &mut [u8], code: u32, out: &mut [u64; 8]) -> Told {
     if check::same(name, b"rc_read") {
         return read(4, capi::code::skein_rc_read(code, out));
     }
@@ -71,16 +58,13 @@ fn with_code(
         return read(1, capi::dispatch::skein_table_known(code, out));
     }
     if check::same(name, b"command_set_cc") {
-        return wrote(capi::command::skein_command_set_cc(bytes, code, out));
+        return wrote(0, capi::command::skein_command_set_cc(bytes, code, out));
     }
     if check::same(name, b"response_set_rc") {
-        return wrote(capi::response::skein_response_set_rc(bytes, code, out));
+        return wrote(0, capi::response::skein_response_set_rc(bytes, code, out));
     }
     if check::same(name, b"response_validate") {
         return read(0, capi::response::skein_response_validate(code, bytes, out));
-    }
-    if check::same(name, b"response_parts") {
-        return parts(capi::response::skein_response_parts(code, bytes, entries, out));
     }
     unknown()
 }
@@ -101,7 +85,7 @@ fn header(name: &[u8], bytes: &[u8], out: &mut [u64; 8]) -> Told {
     unknown()
 }
 
-fn command(name: &[u8], bytes: &[u8], out: &mut [u64; 8], entries: &mut [u64; 18]) -> Told {
+fn command(name: &[u8], bytes: &[u8], out: &mut [u64; 8]) -> Told {
     if check::same(name, b"command_cast") {
         return read(2, capi::command::skein_command_cast(bytes, out));
     }
@@ -122,9 +106,6 @@ fn command(name: &[u8], bytes: &[u8], out: &mut [u64; 8], entries: &mut [u64; 18
     }
     if check::same(name, b"command_parameters") {
         return read(2, capi::command::skein_command_parameters(bytes, out));
-    }
-    if check::same(name, b"command_parts") {
-        return parts(capi::command::skein_command_parts(bytes, entries, out));
     }
     unknown()
 }

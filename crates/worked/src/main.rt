@@ -8,6 +8,7 @@
 mod calls;
 mod frames;
 mod lines;
+mod records;
 mod show;
 mod text;
 mod told;

@@ -1,5 +1,7 @@
 // How an answer is written: numbers in decimal with a space before each, bytes in hex.
 use crate::told::Told;
+use frame::session::Entries;
+use frame::session::Session;
 
 fn bytes(s: &[u8]) {
     if s.len() == 0 {
@@ -24,13 +26,12 @@ fn numbers(s: &[u64], most: usize) {
     }
 }
 
-// What a call returned and reported, and the bytes that it left. A refusal has its own fields and no entries.
-pub(crate) fn answer(told: Told, out: [u64; 8], entries: [u64; 18], later: &[u8]) {
+// What a call returned and reported, and the bytes that it left. A refusal has its own fields.
+pub(crate) fn answer(told: Told, out: [u64; 8], later: &[u8]) {
     io::write_all(1, b" = ");
     io::print_decimal(1, told.number as u64);
     if told.number == 0 {
         numbers(&out, told.count);
-        numbers(&entries, told.entries);
     } else {
         numbers(&out, fields(told.number));
     }
@@ -38,6 +39,25 @@ pub(crate) fn answer(told: Told, out: [u64; 8], entries: [u64; 18], later: &[u8]
         io::write_all(1, b" ; ");
         bytes(later);
     }
+}
+
+// The first three entries, each in the order of the wire.
+pub(crate) fn entries(es: Entries) {
+    entry(es.first);
+    entry(es.second);
+    entry(es.third);
+}
+
+fn entry(e: Session) {
+    let told = [
+        e.handle as u64,
+        e.nonce.at as u64,
+        e.nonce.size as u64,
+        e.attributes as u64,
+        e.hmac.at as u64,
+        e.hmac.size as u64,
+    ];
+    numbers(&told, 6);
 }
 
 // How many fields document 01 gives a refusal.

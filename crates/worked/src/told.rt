@@ -1,12 +1,10 @@
 // What is to be written of a call.
 
-// Whether there is such a call; what it returned; how many numbers an answer of it has, and how many of the entries'
-// follow them; whether it writes bytes.
+// Whether there is such a call; what it returned; how many numbers an answer of it has; whether it writes bytes.
 pub(crate) struct Told {
     pub known: bool,
     pub number: u32,
     pub count: usize,
-    pub entries: usize,
     pub writes: bool,
 }
 
@@ -15,7 +13,6 @@ pub(crate) fn unknown() -> Told {
         known: false,
         number: 0,
         count: 0,
-        entries: 0,
         writes: false,
     }
 }
@@ -25,27 +22,15 @@ pub(crate) fn read(count: usize, number: u32) -> Told {
         known: true,
         number,
         count,
-        entries: 0,
         writes: false,
     }
 }
 
-pub(crate) fn parts(number: u32) -> Told {
+pub(crate) fn wrote(count: usize, number: u32) -> Told {
     Told {
         known: true,
         number,
-        count: 8,
-        entries: 18,
-        writes: false,
-    }
-}
-
-pub(crate) fn wrote(number: u32) -> Told {
-    Told {
-        known: true,
-        number,
-        count: 0,
-        entries: 0,
+        count,
         writes: true,
     }
 }
@@ -57,5 +42,5 @@ pub(crate) fn filled(part: &mut [u8]) -> Told {
         part[at] = 255;
         at += 1;
     }
-    wrote(0)
+    wrote(0, 0)
 }
