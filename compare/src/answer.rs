@@ -4,38 +4,42 @@
 //! a number that should have been left alone, or a byte beside a slice, counts as much as the answer itself. The room
 //! is kept from call to call: once it is large enough, nothing is allocated.
 
-use crate::calls::{Entries, Out};
+use crate::calls::{Frame, Out, Parts, Session, Sessions};
 use std::fmt;
 use std::ops::Range;
 
-/// What a lent array holds before a call: numbers that no answer has, each its own.
-const fn untouched<const N: usize>() -> [u64; N] {
-    let mut numbers = [0xA5A5_5A5A_C3C3_3C00; N];
+/// What the lent array holds before a call: numbers that no answer has, each its own.
+const UNTOUCHED: Out = {
+    let mut numbers = [0xA5A5_5A5A_C3C3_3C00; 8];
     let mut i = 0;
-    while i < N {
+    while i < numbers.len() {
         numbers[i] += i as u64;
         i += 1;
     }
     numbers
+};
+
+/// The parts that a call gives by value: none before it is made, and with a call that gives none.
+pub type Kept = Option<Frame>;
+
+/// Keeps the parts, zeros where they were refused, and hands the number on.
+pub fn keep(parts: Parts, kept: &mut Kept) -> u32 {
+    *kept = Some(parts.frame);
+    parts.refusal
 }
 
-const UNTOUCHED: Out = untouched();
-const NO_ENTRIES: Entries = untouched();
-
-/// The numbers of a lent array up to the first that is untouched.
-fn changed<const N: usize>(now: &[u64; N]) -> impl Iterator<Item = u64> {
-    let changed = |(now, before): (&u64, u64)| (*now != before).then_some(*now);
-    now.iter().zip(untouched::<N>()).map_while(changed)
-}
-
-/// A lent array, with a dot where it is untouched.
-fn show<const N: usize>(numbers: &[u64; N], f: &mut fmt::Formatter) -> fmt::Result {
-    write!(f, "[")?;
-    for (i, (now, before)) in numbers.iter().zip(untouched::<N>()).enumerate() {
-        let gap = if i == 0 { "" } else { " " };
-        if *now == before { write!(f, "{gap}.")? } else { write!(f, "{gap}{now}")? }
-    }
-    write!(f, "]")
+/// The numbers of all parts: tag, code, where the handles end, the two areas behind them in the order in which they
+/// stand, how many entries there are, and the first three.
+fn numbers(frame: &Frame) -> impl Iterator<Item = u64> {
+    let mut areas = [frame.auth, frame.parameters].map(|area| [area.from as u64, area.to as u64]);
+    areas.sort_unstable();
+    let head = [frame.tag.into(), frame.code.into(), frame.handles.to as u64];
+    let entries = frame.sessions.three.into_iter().flat_map(|entry| {
+        let (nonce, hmac) = (entry.nonce, entry.hmac);
+        let ends = [nonce.at as u64, nonce.size.into(), entry.attributes.into(), hmac.at as u64, hmac.size.into()];
+        [entry.handle.into()].into_iter().chain(ends)
+    });
+    head.into_iter().chain(areas.into_iter().flatten()).chain([frame.sessions.count as u64]).chain(entries)
 }
 
 /// The number that a call returns, and the lent array.
@@ -69,17 +73,22 @@ impl Said {
         self.number
     }
 
-    /// The numbers that were reported.
+    /// The numbers that were reported: those of the array up to the first that is untouched.
     pub fn values(&self) -> impl Iterator<Item = u64> {
-        changed(&self.out)
+        let changed = |(now, before): (&u64, u64)| (*now != before).then_some(*now);
+        self.out.iter().zip(UNTOUCHED).map_while(changed)
     }
 }
 
 /// The number, and the array with a dot where it is untouched.
 impl fmt::Display for Said {
     fn fmt(&self, f: &mut fmt::Formatter) -> fmt::Result {
-        write!(f, "{} ", self.number)?;
-        show(&self.out, f)
+        write!(f, "{} [", self.number)?;
+        for (i, (now, before)) in self.out.iter().zip(UNTOUCHED).enumerate() {
+            let gap = if i == 0 { "" } else { " " };
+            if *now == before { write!(f, "{gap}.")? } else { write!(f, "{gap}{now}")? }
+        }
+        write!(f, "]")
     }
 }
 
@@ -128,21 +137,21 @@ impl fmt::Display for Room {
 #[derive(PartialEq, Eq)]
 pub struct Answer {
     pub said: Said,
-    /// The second lent array of the calls that take one.
-    entries: Entries,
+    /// What the calls give that read all parts.
+    kept: Kept,
     /// One for each slice that is lent.
     rooms: Vec<Room>,
 }
 
 impl Answer {
     pub fn new() -> Self {
-        Self { said: Said::NOTHING, entries: NO_ENTRIES, rooms: Vec::new() }
+        Self { said: Said::NOTHING, kept: None, rooms: Vec::new() }
     }
 
     /// The state before a call that is lent these slices.
     pub fn preset<const N: usize>(&mut self, lent: [&[u8]; N]) {
         self.said = Said::NOTHING;
-        self.entries = NO_ENTRIES;
+        self.kept = None;
         self.rooms.resize_with(N, Room::default);
         for (room, bytes) in self.rooms.iter_mut().zip(lent) {
             room.preset(bytes);
@@ -162,20 +171,18 @@ impl Answer {
         number.is_some()
     }
 
-    /// The same with a call that is lent one slice and the second array.
-    pub fn try_call_with_entries(
-        &mut self,
-        call: impl FnOnce(&mut [u8], &mut Entries, &mut Out) -> Option<u32>,
-    ) -> bool {
-        let Self { said, entries, rooms } = self;
-        let number = call(rooms[0].bytes_mut(), entries, &mut said.out);
+    /// The same with a call that is lent one slice and may give all parts.
+    pub fn try_call_for_parts(&mut self, call: impl FnOnce(&mut [u8], &mut Kept, &mut Out) -> Option<u32>) -> bool {
+        let Self { said, kept, rooms } = self;
+        let number = call(rooms[0].bytes_mut(), kept, &mut said.out);
         said.number = number.unwrap_or(said.number);
         number.is_some()
     }
 
-    /// All numbers that were reported, those of the second array behind the first's.
+    /// All numbers that were reported, and behind them those of the parts of a frame that was not refused.
     pub fn values(&self) -> impl Iterator<Item = u64> {
-        self.said.values().chain(changed(&self.entries))
+        let parts = self.kept.iter().filter(|_| self.said.number == 0).flat_map(numbers);
+        self.said.values().chain(parts)
     }
 
     /// The bytes of a lent slice, counted from 0.
@@ -188,15 +195,26 @@ impl Answer {
     }
 }
 
-/// What was said, then the second array where it is changed, then the lent slices.
+/// What was said, then the parts where there are any, then the lent slices.
 impl fmt::Display for Answer {
     fn fmt(&self, f: &mut fmt::Formatter) -> fmt::Result {
         write!(f, "{}", self.said)?;
-        if self.entries != NO_ENTRIES {
-            write!(f, " ")?;
-            show(&self.entries, f)?;
+        if let Some(Frame { tag, code, handles, auth, parameters, sessions }) = self.kept {
+            write!(f, " {tag:x} {code:x}")?;
+            [handles, auth, parameters].iter().try_for_each(|part| write!(f, " {}..{}", part.from, part.to))?;
+            write!(f, " {sessions}")?;
         }
         self.rooms.iter().try_for_each(|room| write!(f, " ; {room}"))
+    }
+}
+
+/// How many there are, then the three records, each as `HANDLE,NONCE-PLACE+SIZE,ATTRIBUTES,HMAC-PLACE+SIZE`.
+impl fmt::Display for Sessions {
+    fn fmt(&self, f: &mut fmt::Formatter) -> fmt::Result {
+        write!(f, "{}", self.count)?;
+        self.three.iter().try_for_each(|Session { handle, nonce, attributes, hmac }| {
+            write!(f, " {handle:x},{}+{},{attributes:x},{}+{}", nonce.at, nonce.size, hmac.at, hmac.size)
+        })
     }
 }
 

@@ -12,7 +12,11 @@ use crate::view::{self, Asks};
 use std::fmt;
 
 #[cfg(oracle)]
-use crate::{calls::Out, oracle};
+use crate::{
+    calls::Out,
+    oracle,
+    shown::{came_to, difference},
+};
 
 #[derive(Clone, Copy, PartialEq)]
 enum Call {
@@ -237,8 +241,21 @@ where
     tallies
 }
 
+/// D14 of docs/DIFFERENCES.md: three bytes into room for four, of the crate and of ours.
+#[cfg(oracle)]
+fn show_partial(tally: &mut Tally) {
+    let mut data = [0; 64];
+    data[..3].fill(7);
+    let buffer = oracle::buffer::<64>(3, &data).expect("three bytes fit");
+    let theirs = came_to(4, |room, out| oracle::buffer_marshal(&buffer, room, out));
+    let ours = came_to(4, |room, out| Data::marshal(3, &data, room, out));
+    difference(tally, "fixed", "D14", (theirs, "9(2,3,2), room 0003eeee"), (ours, "9(0,5,4), room eeeeeeee"));
+}
+
 pub fn run(random: &mut Random) -> Vec<Tally> {
     let mut tallies = check_all::<64>(random);
+    #[cfg(oracle)]
+    show_partial(&mut tallies[Call::Marshal as usize]);
     tallies.extend(check_all::<1024>(random));
     tallies
 }

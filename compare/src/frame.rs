@@ -11,7 +11,7 @@ pub mod known;
 #[cfg(oracle)]
 mod limit;
 mod listed;
-mod make;
+pub mod make;
 #[cfg(oracle)]
 pub mod oracle;
 pub mod real;
@@ -56,7 +56,7 @@ impl Case for Frame {
     }
 
     fn ours(&self, answer: &mut Answer) {
-        answer.try_call_with_entries(|s, entries, out| Some((self.call.ours)(s, self.number, entries, out)));
+        answer.try_call_for_parts(|s, kept, out| Some((self.call.ours)(s, self.number, kept, out)));
     }
 
     fn simpler(&self) -> impl Iterator<Item = Self> {
@@ -70,12 +70,12 @@ impl Case for Frame {
 
 #[cfg(oracle)]
 fn by_crate(case: &Frame, answer: &mut Answer) -> bool {
-    answer.try_call_with_entries(|s, entries, out| (case.call.theirs)(s, case.number, entries, out))
+    answer.try_call_for_parts(|s, kept, out| (case.call.theirs)(s, case.number, kept, out))
 }
 
 /// It speaks about every input.
 fn by_document(case: &Frame, answer: &mut Answer) -> bool {
-    answer.try_call_with_entries(|s, entries, out| Some((case.call.rules)(s, case.number, entries, out)))
+    answer.try_call_for_parts(|s, kept, out| Some((case.call.rules)(s, case.number, kept, out)))
 }
 
 pub fn run(random: &mut Random, thin: bool) -> Vec<Tally> {

@@ -24,9 +24,11 @@ mod judge;
 mod oracle;
 mod random;
 mod rc;
+mod shown;
 mod shrink;
 mod traffic;
 mod view;
+mod write;
 
 use judge::{Count, Tally};
 use random::Random;
@@ -40,12 +42,13 @@ struct Suite {
     list: fn(&mut Random),
 }
 
-static SUITES: [Suite; 6] = [
+static SUITES: [Suite; 7] = [
     Suite { name: "field", run: |random, _| field::run(random), list: field::list },
     Suite { name: "rc", run: rc::run, list: rc::list },
     Suite { name: "view", run: |random, _| view::run(random), list: view::list },
     Suite { name: "fixed", run: |random, _| fixed::run(random), list: |_| () },
     Suite { name: "frame", run: frame::run, list: frame::list },
+    Suite { name: "write", run: write::run, list: |_| () },
     Suite { name: TRAFFIC, run: |_, _| traffic::run(), list: |_| () },
 ];
 

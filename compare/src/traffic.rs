@@ -1,12 +1,14 @@
 //! The traffic suite: frames as TPM software and a TPM wrote them, and frames that other projects publish in their tests.
 //! They are not part of the repository: SKEIN_TRAFFIC names the folder that has them, else it is ../shared/facts beside
-//! the repository. A response is judged for the code of the command that it answers.
+//! the repository. A response is judged for the code of the command that it answers. Each frame that passes is written
+//! again from its parts.
 
 mod published;
 
 use crate::calls;
 use crate::frame::{Desk, Kind, named, real};
 use crate::judge::Tally;
+use crate::write::Again;
 use std::collections::BTreeMap;
 use std::fs;
 use std::path::{Path, PathBuf};
@@ -30,6 +32,12 @@ impl Count {
     }
 }
 
+/// Where the calls on the frames are made.
+struct Desks {
+    read: Desk,
+    again: Again,
+}
+
 /// Where the frames should be.
 fn folder() -> PathBuf {
     // this file is compare/src/traffic.rs
@@ -44,25 +52,28 @@ pub fn run() -> Vec<Tally> {
         println!("traffic: skipped, since there is no {} (SKEIN_TRAFFIC can name another)", folder.display());
         return Vec::new();
     }
-    let mut desk = Desk::new();
-    traces(&mut desk, &folder.join("traces"));
-    published::check(&mut desk, &folder.join("published-frames.csv"));
-    desk.done()
+    let mut desks = Desks { read: Desk::new(), again: Again::new() };
+    traces(&mut desks, &folder.join("traces"));
+    published::check(&mut desks, &folder.join("published-frames.csv"));
+    desks.again.tell(super::TRAFFIC);
+    let mut tallies = desks.read.done();
+    tallies.extend(desks.again.desk.done());
+    tallies
 }
 
 /// A line of a trace: a command and its response, in hexadecimal.
-fn traces(desk: &mut Desk, folder: &Path) {
+fn traces(desks: &mut Desks, folder: &Path) {
     let (mut commands, mut responses) = (Count::default(), Count::default());
     for file in texts(folder) {
         let text = read(&file);
         for line in text.lines() {
             let pair = real::pair(line);
             let (command, response) = pair.unwrap_or_else(|| panic!("a line of {} is no pair", file.display()));
-            commands.add(ask_command(desk, &command));
-            responses.add(ask_response(desk, real::code(&command), &response));
+            commands.add(ask_command(desks, &command));
+            responses.add(ask_response(desks, real::code(&command), &response));
             // as they follow each other on a bus
-            desk.lay(&[command, response].concat());
-            desk.ask(named("command_cast_prefix"), 0);
+            desks.read.lay(&[command, response].concat());
+            desks.read.ask(named("command_cast_prefix"), 0);
         }
     }
     commands.tell("commands");
@@ -83,17 +94,19 @@ fn read(file: &Path) -> String {
 }
 
 /// Makes all calls on a command, and gives the number of its full check.
-fn ask_command(desk: &mut Desk, frame: &[u8]) -> u32 {
-    desk.lay(frame);
-    desk.ask_kind(Kind::Header, 0);
-    desk.ask_kind(Kind::Command, 0);
+fn ask_command(Desks { read, again }: &mut Desks, frame: &[u8]) -> u32 {
+    read.lay(frame);
+    read.ask_kind(Kind::Header, 0);
+    read.ask_kind(Kind::Command, 0);
+    again.command(frame);
     calls::command_validate(frame, &mut [0; 8])
 }
 
 /// The same of a response to the command of a code.
-fn ask_response(desk: &mut Desk, cc: u32, frame: &[u8]) -> u32 {
-    desk.lay(frame);
-    desk.ask_kind(Kind::Header, 0);
-    desk.ask_kind(Kind::Response, cc);
+fn ask_response(Desks { read, again }: &mut Desks, cc: u32, frame: &[u8]) -> u32 {
+    read.lay(frame);
+    read.ask_kind(Kind::Header, 0);
+    read.ask_kind(Kind::Response, cc);
+    again.response(cc, frame);
     calls::response_validate(cc, frame, &mut [0; 8])
 }

@@ -1,7 +1,8 @@
 //! The calls on frames, each with what document 01 and the crate say in its place, all in one shape.
 
 use super::rules;
-use crate::calls::{self, Entries, Out};
+use crate::answer::{Kept, keep};
+use crate::calls::{self, Out};
 
 #[cfg(oracle)]
 use super::{limit, oracle};
@@ -19,8 +20,8 @@ pub enum Kind {
     Setter,
 }
 
-/// Takes the bytes, a number, and both arrays; a call leaves alone what it has no use for.
-type Shape<T> = fn(&mut [u8], u32, &mut Entries, &mut Out) -> T;
+/// Takes the bytes, a number, a place for the parts, and the array; a call leaves alone what it has no use for.
+type Shape<T> = fn(&mut [u8], u32, &mut Kept, &mut Out) -> T;
 
 pub struct Call {
     pub name: &'static str,
@@ -134,16 +135,16 @@ pub static CALLS: [Call; 24] = [
         ours: |s, _, _, out| calls::command_validate(s, out),
         rules: |s, _, _, out| rules::command_validate(s, out),
         #[cfg(oracle)]
-        theirs: |s, _, entries, out| Some(limit::command_validate(s, entries, out)),
+        theirs: |s, _, kept, out| Some(limit::command_validate(s, kept, out)),
     },
     Call {
         name: "command_parts",
         kind: Kind::Command,
         numbered: false,
-        ours: |s, _, entries, out| calls::command_parts(s, entries, out),
-        rules: |s, _, entries, out| rules::command_parts(s, entries, out),
+        ours: |s, _, kept, out| keep(calls::command_parts(s, out), kept),
+        rules: |s, _, kept, out| keep(rules::command_parts(s, out), kept),
         #[cfg(oracle)]
-        theirs: |s, _, entries, out| Some(limit::command_parts(s, entries, out)),
+        theirs: |s, _, kept, out| Some(limit::command_parts(s, kept, out)),
     },
     Call {
         name: "command_cc",
@@ -206,16 +207,16 @@ pub static CALLS: [Call; 24] = [
         ours: |s, cc, _, out| calls::response_validate(cc, s, out),
         rules: |s, cc, _, out| rules::response_validate(cc, s, out),
         #[cfg(oracle)]
-        theirs: |s, cc, entries, out| limit::response_validate(cc, s, entries, out),
+        theirs: |s, cc, kept, out| limit::response_validate(cc, s, kept, out),
     },
     Call {
         name: "response_parts",
         kind: Kind::Response,
         numbered: true,
-        ours: |s, cc, entries, out| calls::response_parts(cc, s, entries, out),
-        rules: |s, cc, entries, out| rules::response_parts(cc, s, entries, out),
+        ours: |s, cc, kept, out| keep(calls::response_parts(cc, s, out), kept),
+        rules: |s, cc, kept, out| keep(rules::response_parts(cc, s, out), kept),
         #[cfg(oracle)]
-        theirs: |s, cc, entries, out| limit::response_parts(cc, s, entries, out),
+        theirs: |s, cc, kept, out| limit::response_parts(cc, s, kept, out),
     },
     Call {
         name: "response_rc",

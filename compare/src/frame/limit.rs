@@ -4,7 +4,8 @@
 //! 6(place,3,4). Any other difference stays one.
 
 use super::oracle;
-use crate::calls::{Entries, Out};
+use crate::answer::{Kept, keep};
+use crate::calls::{self, Out};
 use crate::oracle::put;
 use std::sync::atomic::{AtomicU64, Ordering};
 use tpm2_protocol::TpmResult;
@@ -18,42 +19,44 @@ pub fn explained() -> u64 {
     EXPLAINED.load(Ordering::Relaxed)
 }
 
-pub fn command_validate(s: &[u8], entries: &mut Entries, out: &mut Out) -> u32 {
-    let said = |_: &mut Entries, out: &mut Out| Some(oracle::command_validate(s, out));
-    limited(said, || fourth_of_command(s), entries, out).expect("a command can be asked about")
+pub fn command_validate(s: &[u8], kept: &mut Kept, out: &mut Out) -> u32 {
+    let said = |_: &mut Kept, out: &mut Out| Some(oracle::command_validate(s, out));
+    limited(said, || fourth_of_command(s), kept, out).expect("a command can be asked about")
 }
 
-pub fn command_parts(s: &[u8], entries: &mut Entries, out: &mut Out) -> u32 {
-    let said = |entries: &mut Entries, out: &mut Out| Some(oracle::command_parts(s, entries, out));
-    limited(said, || fourth_of_command(s), entries, out).expect("a command can be asked about")
+pub fn command_parts(s: &[u8], kept: &mut Kept, out: &mut Out) -> u32 {
+    let said = |kept: &mut Kept, out: &mut Out| Some(keep(oracle::command_parts(s, out), kept));
+    limited(said, || fourth_of_command(s), kept, out).expect("a command can be asked about")
 }
 
-pub fn response_validate(cc: u32, s: &[u8], entries: &mut Entries, out: &mut Out) -> Option<u32> {
-    let said = |_: &mut Entries, out: &mut Out| oracle::response_validate(cc, s, out);
-    limited(said, || fourth_of_response(cc, s), entries, out)
+pub fn response_validate(cc: u32, s: &[u8], kept: &mut Kept, out: &mut Out) -> Option<u32> {
+    let said = |_: &mut Kept, out: &mut Out| oracle::response_validate(cc, s, out);
+    limited(said, || fourth_of_response(cc, s), kept, out)
 }
 
-pub fn response_parts(cc: u32, s: &[u8], entries: &mut Entries, out: &mut Out) -> Option<u32> {
-    let said = |entries: &mut Entries, out: &mut Out| oracle::response_parts(cc, s, entries, out);
-    limited(said, || fourth_of_response(cc, s), entries, out)
+pub fn response_parts(cc: u32, s: &[u8], kept: &mut Kept, out: &mut Out) -> Option<u32> {
+    let said = |kept: &mut Kept, out: &mut Out| Some(keep(oracle::response_parts(cc, s, out)?, kept));
+    limited(said, || fourth_of_response(cc, s), kept, out)
 }
 
 fn limited(
-    said: impl FnOnce(&mut Entries, &mut Out) -> Option<u32>,
+    said: impl FnOnce(&mut Kept, &mut Out) -> Option<u32>,
     fourth: impl FnOnce() -> Option<u64>,
-    entries: &mut Entries,
+    kept: &mut Kept,
     out: &mut Out,
 ) -> Option<u32> {
-    let (mut their_entries, mut their_out) = (*entries, *out);
-    let number = said(&mut their_entries, &mut their_out)?;
+    let mut their_out = *out;
+    let number = said(kept, &mut their_out)?;
     let reached = |place: &u64| number == 0 || their_out[0] >= *place;
     // other numbers come before any entry
     let fourth = if matches!(number, 0 | 1 | 6) { fourth().filter(reached) } else { None };
     if let Some(place) = fourth {
         EXPLAINED.fetch_add(1, Ordering::Relaxed);
+        // behind a refusal the parts of a call that gives them are zeros
+        *kept = kept.map(|_| calls::Frame::default());
         return Some(put(6, [place, 3, 4], out));
     }
-    (*entries, *out) = (their_entries, their_out);
+    *out = their_out;
     Some(number)
 }
 

@@ -1,7 +1,7 @@
 //! The crate's frames under the convention of `calls`, for the suites and for the benchmark. A call that gives an option
 //! has none where safe Rust cannot ask the crate.
 
-use crate::calls::{Entries, Out};
+use crate::calls::{self, Field, Out, Parts, Session, Sessions, Span};
 use crate::oracle::{UNNUMBERED, give, put, range, refuse, tell, wide};
 use tpm2_protocol::basic::{Tpm2b, TpmUint32};
 use tpm2_protocol::data::{TpmCc, TpmRc, TpmRcBase, TpmSt};
@@ -203,82 +203,93 @@ pub fn response_body(s: &mut [u8], out: &mut Out) -> Option<u32> {
 
 // ---- all parts: the crate's checks and areas, and a walk with its own readers of a number and of a TPM2B
 
-/// The entries of an area, the first three of them by value, and how many there are.
-fn entries_of(mut area: &[u8], start: *const u8, command: bool) -> TpmResult<(Entries, u64)> {
-    let (mut entries, mut count) = ([0; 18], 0);
+/// The entries of an area, the first three of them by value.
+fn entries_of(mut area: &[u8], start: *const u8, command: bool) -> TpmResult<Sessions> {
+    let mut sessions = Sessions::default();
     while !area.is_empty() {
         let entry;
         (entry, area) = entry_of(area, start, command)?;
-        if let Some(place) = entries.chunks_mut(6).nth(count) {
-            place.copy_from_slice(&entry);
+        if let Some(place) = sessions.three.get_mut(sessions.count) {
+            *place = entry;
         }
-        count += 1;
+        sessions.count += 1;
     }
-    Ok((entries, count as u64))
+    Ok(sessions)
 }
 
 /// The entry at the start of an area, and what is behind it.
-pub fn entry_of(area: &[u8], start: *const u8, command: bool) -> TpmResult<([u64; 6], &[u8])> {
+pub fn entry_of(area: &[u8], start: *const u8, command: bool) -> TpmResult<(Session, &[u8])> {
     let (handle, area) = if command { TpmUint32::unmarshal(area)? } else { (TpmUint32::new(0), area) };
     let (nonce, area) = Tpm2b::<{ u16::MAX as usize }>::cast_prefix(area)?;
-    let Some((attributes, area)) = area.split_first() else {
+    let Some((&attributes, area)) = area.split_first() else {
         return Err(TpmError::UnexpectedEnd { offset: 0, needed: 1, available: 0 });
     };
     let (hmac, area) = Tpm2b::<{ u16::MAX as usize }>::cast_prefix(area)?;
-    let [nonce_at, _] = range(nonce.data(), start);
-    let [hmac_at, _] = range(hmac.data(), start);
-    let (nonce_size, hmac_size) = (nonce.size() as u64, hmac.size() as u64);
-    Ok(([handle.value().into(), nonce_at, nonce_size, (*attributes).into(), hmac_at, hmac_size], area))
+    let [nonce, hmac] =
+        [nonce, hmac].map(|field| Field { at: span(field.data(), start).from, size: field.size() as u16 });
+    Ok((Session { handle: handle.value(), nonce, attributes, hmac }, area))
 }
 
-pub fn command_parts(s: &[u8], entries: &mut Entries, out: &mut Out) -> u32 {
-    tell_parts(command_read(s), entries, out)
+fn span(part: &[u8], start: *const u8) -> Span {
+    let [from, to] = range(part, start).map(|place| place as usize);
+    Span { from, to }
 }
 
-fn command_read(s: &[u8]) -> TpmResult<([u64; 8], Entries)> {
+pub fn command_parts(s: &[u8], out: &mut Out) -> Parts {
+    tell_parts(command_read(s), out)
+}
+
+fn command_read(s: &[u8]) -> TpmResult<calls::Frame> {
     let frame = TpmCommand::cast(s)?;
     frame.validate()?;
-    let [_, handles] = range(frame.handles()?, s.as_ptr());
     let area = frame.auth_area()?;
-    let [from, to] = range(area, s.as_ptr());
-    let [parameters, end] = range(frame.parameters()?, s.as_ptr());
-    let (entries, count) = entries_of(area, s.as_ptr(), true)?;
-    let (tag, code) = (frame.tag()?.value().into(), frame.cc()?.value().into());
-    Ok(([tag, code, handles, from, to, parameters, end, count], entries))
+    Ok(calls::Frame {
+        tag: frame.tag()?.value(),
+        code: frame.cc()?.value(),
+        handles: span(frame.handles()?, s.as_ptr()),
+        auth: span(area, s.as_ptr()),
+        parameters: span(frame.parameters()?, s.as_ptr()),
+        sessions: entries_of(area, s.as_ptr(), true)?,
+    })
 }
 
-pub fn response_parts(cc: u32, s: &[u8], entries: &mut Entries, out: &mut Out) -> Option<u32> {
+pub fn response_parts(cc: u32, s: &[u8], out: &mut Out) -> Option<Parts> {
     if let Err(error) = TpmResponse::cast(s) {
-        return Some(refuse(error, out));
+        return Some(tell_parts(Err(error), out));
     }
     let cc = TpmCc::try_from(cc).ok()?;
     match response_handles(cc) {
-        Ok(handles) => Some(response_parts_of(cc, handles, s, entries, out)),
-        Err(error) => Some(refuse(error, out)),
+        Ok(handles) => Some(response_parts_of(cc, handles, s, out)),
+        Err(error) => Some(tell_parts(Err(error), out)),
     }
 }
 
 /// The same for who knows the command as the crate's member, and how many handles its response has.
-pub fn response_parts_of(cc: TpmCc, handles: usize, s: &[u8], entries: &mut Entries, out: &mut Out) -> u32 {
+pub fn response_parts_of(cc: TpmCc, handles: usize, s: &[u8], out: &mut Out) -> Parts {
     let read = TpmResponse::cast(s).and_then(|frame| response_read(cc, handles, frame));
-    tell_parts(read, entries, out)
+    tell_parts(read, out)
 }
 
-fn response_read(cc: TpmCc, handles: usize, frame: &TpmResponse) -> TpmResult<([u64; 8], Entries)> {
+fn response_read(cc: TpmCc, handles: usize, frame: &TpmResponse) -> TpmResult<calls::Frame> {
     frame.validate(cc)?;
-    let [handles, from, to, end] = response_areas(frame, handles)?;
+    let [handles, from, to, end] = response_areas(frame, handles)?.map(|place| place as usize);
     let s = frame.as_bytes();
-    let (entries, count) = entries_of(&s[to as usize..end as usize], s.as_ptr(), false)?;
-    let (tag, code) = (frame.tag()?.value().into(), frame.rc()?.value().into());
-    Ok(([tag, code, handles, from, to, to, end, count], entries))
+    Ok(calls::Frame {
+        tag: frame.tag()?.value(),
+        code: frame.rc()?.value(),
+        handles: Span { from: 10, to: handles },
+        auth: Span { from: to, to: end },
+        parameters: Span { from, to },
+        sessions: entries_of(&s[to..end], s.as_ptr(), false)?,
+    })
 }
 
-fn tell_parts(read: TpmResult<([u64; 8], Entries)>, entries: &mut Entries, out: &mut Out) -> u32 {
-    let keep = |(numbers, found)| {
-        *entries = found;
-        numbers
-    };
-    tell(read, keep, out)
+/// On success the array is left alone, and behind a refusal the parts are zeros.
+fn tell_parts(read: TpmResult<calls::Frame>, out: &mut Out) -> Parts {
+    match read {
+        Ok(frame) => Parts { refusal: 0, frame },
+        Err(error) => Parts { refusal: refuse(error, out), frame: calls::Frame::default() },
+    }
 }
 
 /// Of a response that passes, but perhaps for its entries: where the handles end, where the parameters start and end,

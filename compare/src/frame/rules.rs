@@ -1,6 +1,7 @@
 //! Document 01's order of checks, written out. It has an answer for every input, also where the crate has none.
 //!
-//! Each public function has the shape of our call: what is lent goes in, the number comes out, the arrays take the rest.
+//! Each public function has the shape of our call: what is lent goes in, the number comes out, the array takes the rest; the
+//! parts come by value.
 
 mod parts;
 

@@ -1,12 +1,12 @@
 //! Frames that other projects publish, in a table of kind, bytes, source, what it is, and what document 01 says of it.
 //! The last column is text for readers: it must be what our own answer becomes when it is told in those words.
 
-use super::{ask_command, ask_response, read};
-use crate::calls::{self, Out};
-use crate::frame::{Desk, named, real};
+use super::{Desks, ask_command, ask_response, read};
+use crate::calls::{self, Frame, Out, Parts, Span};
+use crate::frame::{named, real};
 use std::path::Path;
 
-pub fn check(desk: &mut Desk, file: &Path) {
+pub fn check(desks: &mut Desks, file: &Path) {
     let text = read(file);
     let (mut held, mut differ) = (0, 0);
     for row in text.lines().skip(1).map(fields) {
@@ -14,12 +14,12 @@ pub fn check(desk: &mut Desk, file: &Path) {
             panic!("a row of {} has no five columns: {row:?}", file.display());
         };
         let frame = real::unhex(hex).expect("the bytes are in hexadecimal");
-        let ours = if kind.ends_with("command") { command(desk, &frame) } else { response(desk, &frame, what) };
+        let ours = if kind.ends_with("command") { command(desks, &frame) } else { response(desks, &frame, what) };
         held += 1;
         if ours != result.trim_end() {
             differ += 1;
             let call = named(if kind.ends_with("command") { "command_parts" } else { "response_parts" });
-            desk.tally(call).differs_in_all(&format!("{hex}: '{ours}', and published is '{result}'"));
+            desks.read.tally(call).differs_in_all(&format!("{hex}: '{ours}', and published is '{result}'"));
         }
     }
     println!("traffic: {held} published frames, each held to its published result, {differ} differ");
@@ -40,32 +40,40 @@ fn fields(row: &str) -> Vec<String> {
     fields
 }
 
-fn command(desk: &mut Desk, frame: &[u8]) -> String {
-    ask_command(desk, frame);
+fn command(desks: &mut Desks, frame: &[u8]) -> String {
+    ask_command(desks, frame);
     let mut out = [0; 8];
-    match calls::command_parts(frame, &mut [0; 18], &mut out) {
-        0 => {
-            let [_, _, handles, from, to, parameters, end, count] = out;
-            let entries = if count == 0 { "no entries".into() } else { format!("{count} entries {from}..{to}") };
-            format!("passes; handles 10..{handles}, {entries}, parameters {parameters}..{end}")
-        }
-        number => refusal(number, &out),
+    let Parts { refusal: number, frame } = calls::command_parts(frame, &mut out);
+    if number != 0 {
+        return refusal(number, &out);
     }
+    let entries = entries(&frame).unwrap_or("no entries".into());
+    format!("passes; handles {}, {entries}, parameters {}", place(frame.handles), place(frame.parameters))
 }
 
-fn response(desk: &mut Desk, frame: &[u8], what: &str) -> String {
+fn response(desks: &mut Desks, frame: &[u8], what: &str) -> String {
     let cc = answered(what);
-    ask_response(desk, cc, frame);
+    ask_response(desks, cc, frame);
     let mut out = [0; 8];
-    match calls::response_parts(cc, frame, &mut [0; 18], &mut out) {
-        0 if out[1] != 0 => error_code(out[1] as u32),
-        0 => {
-            let [_, _, handles, parameters, end, from, to, count] = out;
-            let entries = if count == 0 { String::new() } else { format!(", {count} entries {from}..{to}") };
-            format!("passes; handles 10..{handles}, parameters {parameters}..{end}{entries}")
-        }
-        number => refusal(number, &out),
+    let Parts { refusal: number, frame } = calls::response_parts(cc, frame, &mut out);
+    if number != 0 {
+        return refusal(number, &out);
     }
+    if frame.code != 0 {
+        return error_code(frame.code);
+    }
+    let entries = entries(&frame).map_or(String::new(), |entries| format!(", {entries}"));
+    format!("passes; handles {}, parameters {}{entries}", place(frame.handles), place(frame.parameters))
+}
+
+fn place(part: Span) -> String {
+    format!("{}..{}", part.from, part.to)
+}
+
+/// How many entries there are, and where; none where there is none.
+fn entries(frame: &Frame) -> Option<String> {
+    let count = frame.sessions.count;
+    (count > 0).then(|| format!("{count} entries {}", place(frame.auth)))
 }
 
 /// The code that is named behind the word `for`; 0 where none is, which only a frame does that no cast lets through.

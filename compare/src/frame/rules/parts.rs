@@ -2,7 +2,7 @@
 //! of it.
 
 use super::*;
-use crate::calls::Entries;
+use crate::calls::{self, Field, Parts, Session, Sessions, Span};
 
 /// The size of the TPM2B at a place of an area that ends at the end of `s`.
 fn tpm2b(s: &[u8], at: usize) -> Read<usize> {
@@ -14,11 +14,11 @@ fn tpm2b(s: &[u8], at: usize) -> Read<usize> {
     if left < 2 + size { Err(ends(at, 2 + size, left)) } else { Ok(size) }
 }
 
-/// The entries from a place to the end of `s`, and how many there are.
-fn walk(s: &[u8], from: usize, command: bool) -> Read<(Entries, usize)> {
-    let (mut entries, mut count, mut at) = ([0; 18], 0, from);
+/// The entries from a place to the end of `s`.
+fn walk(s: &[u8], from: usize, command: bool) -> Read<Sessions> {
+    let (mut sessions, mut at) = (Sessions::default(), from);
     while at < s.len() {
-        if count == 3 {
+        if sessions.count == 3 {
             return Err(Refusal(6, [at, 3, 4]));
         }
         let mut handle = 0;
@@ -33,63 +33,64 @@ fn walk(s: &[u8], from: usize, command: bool) -> Read<(Entries, usize)> {
         let attributes = nonce.0 + nonce.1;
         let byte = *s.get(attributes).ok_or(ends(attributes, 1, 0))?;
         let hmac = (attributes + 3, tpm2b(s, attributes + 1)?);
-        let entry = [handle, nonce.0, nonce.1, byte.into(), hmac.0, hmac.1];
-        entries[6 * count..][..6].copy_from_slice(&entry.map(|n| n as u64));
-        count += 1;
-        at = hmac.0 + hmac.1;
+        let [nonce, hmac] = [nonce, hmac].map(|(at, size)| Field { at, size: size as u16 });
+        sessions.three[sessions.count] = Session { handle: handle as u32, nonce, attributes: byte, hmac };
+        sessions.count += 1;
+        at = hmac.at + usize::from(hmac.size);
     }
-    Ok((entries, count))
+    Ok(sessions)
 }
 
-/// The numbers of a frame's parts, and its entries.
-type Parts = ([usize; 8], Entries);
+/// The parts of a frame that ends at the end of `s`; the three areas as where each starts and ends.
+fn parts(s: &[u8], areas: [(usize, usize); 3], sessions: Sessions) -> calls::Frame {
+    let [handles, auth, parameters] = areas.map(|(from, to)| Span { from, to });
+    calls::Frame { tag: tag_field(s) as u16, code: code_field(s), handles, auth, parameters, sessions }
+}
 
-fn command_read(s: &[u8]) -> Read<Parts> {
+fn command_read(s: &[u8]) -> Read<calls::Frame> {
     let frame = prefix(s).and_then(nothing_behind)?;
     command_judged(frame)?;
     let (handles, from, to) = command_areas(frame)?;
-    let (entries, count) = walk(&frame[..to], from, true)?;
-    Ok(([tag_field(s), code_field(s) as usize, handles, from, to, to, s.len(), count], entries))
+    let sessions = walk(&frame[..to], from, true)?;
+    Ok(parts(s, [(HEADER, handles), (from, to), (to, s.len())], sessions))
 }
 
-fn response_read(cc: u32, s: &[u8]) -> Read<Parts> {
+fn response_read(cc: u32, s: &[u8]) -> Read<calls::Frame> {
     let frame = prefix(s).and_then(nothing_behind)?;
     response_judged(frame)?;
     let row = row_of(cc)?;
-    let (tag, code) = (tag_field(s), code_field(s) as usize);
-    if code != 0 {
-        return match (tag, s.len()) {
+    if code_field(s) != 0 {
+        return match (tag_field(s), s.len()) {
             (SESSIONS, _) => Err(refusal(3, 0, SESSIONS)),
-            (_, HEADER) => Ok(([tag, code, HEADER, HEADER, HEADER, HEADER, HEADER, 0], [0; 18])),
+            (_, HEADER) => Ok(parts(s, [(HEADER, HEADER); 3], Sessions::default())),
             (_, longer) => Err(refusal(2, HEADER, longer - HEADER)),
         };
     }
     let handles = handles_end(s, row.responses)?;
-    let (from, to) = if tag == SESSIONS { sized(s, handles)? } else { (handles, s.len()) };
-    let (entries, count) = walk(s, to, false)?;
-    Ok(([tag, code, handles, from, to, to, s.len(), count], entries))
+    let (from, to) = if tag_field(s) == SESSIONS { sized(s, handles)? } else { (handles, s.len()) };
+    let sessions = walk(s, to, false)?;
+    Ok(parts(s, [(HEADER, handles), (to, s.len()), (from, to)], sessions))
 }
 
-fn tell_parts(read: Read<Parts>, entries: &mut Entries, out: &mut Out) -> u32 {
-    let keep = |(numbers, found)| {
-        *entries = found;
-        numbers
-    };
-    tell(read, keep, out)
+/// On success the array is left alone, and behind a refusal the parts are zeros.
+fn tell_parts(read: Read<calls::Frame>, out: &mut Out) -> Parts {
+    let mut frame = calls::Frame::default();
+    let refusal = tell(read.map(|read| frame = read), |()| [], out);
+    Parts { refusal, frame }
 }
 
 pub fn command_validate(s: &[u8], out: &mut Out) -> u32 {
     tell(command_read(s), |_| [], out)
 }
 
-pub fn command_parts(s: &[u8], entries: &mut Entries, out: &mut Out) -> u32 {
-    tell_parts(command_read(s), entries, out)
+pub fn command_parts(s: &[u8], out: &mut Out) -> Parts {
+    tell_parts(command_read(s), out)
 }
 
 pub fn response_validate(cc: u32, s: &[u8], out: &mut Out) -> u32 {
     tell(response_read(cc, s), |_| [], out)
 }
 
-pub fn response_parts(cc: u32, s: &[u8], entries: &mut Entries, out: &mut Out) -> u32 {
-    tell_parts(response_read(cc, s), entries, out)
+pub fn response_parts(cc: u32, s: &[u8], out: &mut Out) -> Parts {
+    tell_parts(response_read(cc, s), out)
 }

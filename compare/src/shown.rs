@@ -1,0 +1,23 @@
+//! Single calls that write, shown as text: for what docs/DIFFERENCES.md lists, and for what no case can hold.
+
+use crate::answer::{Hex, Said};
+use crate::calls::Out;
+use crate::judge::Tally;
+
+/// What a call with so much room came to: the number, the numbers behind it, and the room as it is then.
+pub fn came_to(room: usize, write: impl FnOnce(&mut [u8], &mut Out) -> u32) -> String {
+    let (mut said, mut room) = (Said::NOTHING, vec![0xEE; room]);
+    said.call(|out| write(&mut room, out));
+    let values: Vec<String> = said.values().map(|value| value.to_string()).collect();
+    format!("{}({}), room {}", said.number(), values.join(","), Hex(&room))
+}
+
+/// A difference by its name in docs/DIFFERENCES.md: what the crate's call and ours came to, each held to what is listed.
+pub fn difference(tally: &mut Tally, suite: &str, name: &str, theirs: (String, &str), ours: (String, &str)) {
+    println!("{suite}: {name}: tpm2-protocol: {}; here: {}", theirs.0, ours.0);
+    for (who, (now, listed)) in [("tpm2-protocol", theirs), ("here", ours)] {
+        if now != listed {
+            tally.differs_in_all(&format!("{name}, {who}: {now}, and listed is {listed}"));
+        }
+    }
+}

@@ -1,0 +1,222 @@
+//! The write suite: whole commands and responses, written from their parts into lent room.
+//!
+//! Document 01's rules, written out, judge everything. The crate judges inside document 01's domain, read with document
+//! 01's limit on sessions and no other change.
+
+mod again;
+mod desk;
+#[cfg(oracle)]
+mod differences;
+mod inputs;
+mod large;
+#[cfg(oracle)]
+mod limit;
+#[cfg(oracle)]
+mod oracle;
+mod rules;
+
+pub use again::Again;
+pub use desk::Desk;
+
+use crate::answer::{Answer, Hex};
+use crate::calls::{self, Field, Handed, Out, Session, Sessions};
+use crate::judge::{Case, Judge, Tally};
+use crate::random::Random;
+use crate::shrink;
+use std::fmt;
+use std::sync::LazyLock;
+
+#[derive(Clone, Copy, Debug, PartialEq)]
+pub enum Kind {
+    Command,
+    Response,
+}
+
+impl Kind {
+    pub const ALL: [Self; 2] = [Self::Command, Self::Response];
+
+    pub fn name(self) -> &'static str {
+        match self {
+            Self::Command => "command_write",
+            Self::Response => "response_write",
+        }
+    }
+}
+
+/// A call with its input.
+#[derive(Clone)]
+pub struct Write {
+    pub kind: Kind,
+    /// The tag of a command, the code of a response.
+    pub number: u32,
+    /// The code of the command that is written, or answered.
+    pub cc: u32,
+    pub handles: Vec<u8>,
+    pub sessions: Sessions,
+    /// The bytes that the sessions' places point into.
+    pub lent: Vec<u8>,
+    pub parameters: Vec<u8>,
+    /// How many bytes of room are lent.
+    pub room: usize,
+}
+
+/// What the room holds before a call, as much as is ever lent.
+static FILL: LazyLock<Vec<u8>> =
+    LazyLock::new(|| (0..1_usize << 20).map(|at| (at * 7 ^ at >> 8) as u8 ^ 0xC3).collect());
+
+/// `NAME NUMBER CC HANDLES COUNT SESSION SESSION SESSION LENT PARAMETERS ROOM`, the room by its length.
+impl fmt::Display for Write {
+    fn fmt(&self, f: &mut fmt::Formatter) -> fmt::Result {
+        write!(f, "{} {} {} {} ", self.kind.name(), self.number, self.cc, Hex(&self.handles))?;
+        write!(f, "{} {} {} {}", self.sessions, Hex(&self.lent), Hex(&self.parameters), self.room)
+    }
+}
+
+impl Case for Write {
+    const JUDGES: &'static [Judge<Self>] = &[
+        #[cfg(oracle)]
+        Judge::tpm2_protocol(by_crate),
+        Judge::document_01(by_document),
+    ];
+
+    /// What is only read is lent too, and has to stay.
+    fn preset(&self, answer: &mut Answer) {
+        answer.preset([&FILL[..self.room], &self.handles, &self.lent, &self.parameters]);
+    }
+
+    fn ours(&self, answer: &mut Answer) {
+        self.try_write(answer, |given, room, out| {
+            Some(match self.kind {
+                Kind::Command => calls::command_write(self.number as u16, self.cc, given, room, out),
+                Kind::Response => calls::response_write(self.number, self.cc, given, room, out),
+            })
+        });
+    }
+
+    /// Parts that get shorter come with the room as it is, and with as much less as the frame is shorter.
+    fn simpler(&self) -> impl Iterator<Item = Self> {
+        let refitted = |case: Self| Self { room: (self.room + case.needed()).saturating_sub(self.needed()), ..case };
+        let both = move |case: Self| [case.clone(), refitted(case)];
+        let sessions = fewer_and_simpler(&self.sessions).map(|sessions| Self { sessions, ..self.clone() });
+        let lent = shorter(&self.lent).map(|lent| Self { lent, ..self.clone() });
+        let handles = shorter(&self.handles).map(|handles| Self { handles, ..self.clone() });
+        let parameters = shorter(&self.parameters).map(|parameters| Self { parameters, ..self.clone() });
+        let parts = sessions.chain(parameters).chain(handles).flat_map(both);
+        let rooms = shrink::numbers(self.room as u64).map(|n| Self { room: n as usize, ..self.clone() });
+        let numbers = shrink::numbers(self.number.into()).map(|n| Self { number: n as u32, ..self.clone() });
+        let codes = shrink::numbers(self.cc.into()).map(|n| Self { cc: n as u32, ..self.clone() });
+        parts.chain(lent).chain(rooms).chain(numbers).chain(codes)
+    }
+}
+
+impl Write {
+    /// The room that the frame takes, if it passes.
+    fn needed(&self) -> usize {
+        let command = self.kind == Kind::Command;
+        if !command && self.number != 0 {
+            return 10;
+        }
+        let looked_at = self.sessions.three.iter().take(self.sessions.count);
+        let entry = |session: &Session| usize::from(session.nonce.size) + usize::from(session.hmac.size) + 5;
+        let entries: usize = looked_at.map(|session| entry(session) + if command { 4 } else { 0 }).sum();
+        let size = if self.sessions.count > 0 { 4 } else { 0 };
+        10 + self.handles.len() + size + entries + self.parameters.len()
+    }
+
+    /// Makes a call, or has a judge write, on what `answer` lends; tells whether it was done.
+    fn try_write(&self, answer: &mut Answer, write: impl FnOnce(Handed, &mut [u8], &mut Out) -> Option<u32>) -> bool {
+        answer.try_call(|[room, handles, lent, parameters], out| {
+            write(Handed { handles, sessions: self.sessions, lent, parameters }, room, out)
+        })
+    }
+}
+
+/// What is handed over without a session.
+fn without_sessions<'a>(handles: &'a [u8], parameters: &'a [u8]) -> Handed<'a> {
+    Handed { handles, sessions: Sessions::default(), lent: &[], parameters }
+}
+
+/// It speaks about every input.
+fn by_document(case: &Write, answer: &mut Answer) -> bool {
+    case.try_write(answer, |given, room, out| {
+        Some(match case.kind {
+            Kind::Command => rules::command_write(case.number as u16, case.cc, given, room, out),
+            Kind::Response => rules::response_write(case.number, case.cc, given, room, out),
+        })
+    })
+}
+
+#[cfg(oracle)]
+fn by_crate(case: &Write, answer: &mut Answer) -> bool {
+    case.try_write(answer, |given, room, out| match case.kind {
+        Kind::Command => limit::command_write(case.number as u16, case.cc, given, room, out),
+        Kind::Response => limit::response_write(case.number, case.cc, given, room, out),
+    })
+}
+
+// ---- simpler inputs
+
+/// Shorter bytes, or simpler ones; of many only halves, and all of them zeros.
+fn shorter(s: &[u8]) -> impl Iterator<Item = Vec<u8>> {
+    let many = s.len() > 256;
+    let halves = shrink::numbers(s.len() as u64).map(|n| s[..n as usize].to_vec());
+    let zeros = s.iter().any(|&byte| byte != 0).then(|| vec![0; s.len()]);
+    let each = shrink::bytes(if many { &[] } else { s });
+    halves.chain(zeros).chain(each)
+}
+
+/// A smaller count, the first session left out, a session that is all zeros, or one of its numbers smaller.
+fn fewer_and_simpler(sessions: &Sessions) -> impl Iterator<Item = Sessions> {
+    let Sessions { count, three } = *sessions;
+    let counts = shrink::numbers(count as u64).map(move |n| Sessions { count: n as usize, three });
+    let without_first = Sessions { count: count.saturating_sub(1), three: [three[1], three[2], Session::default()] };
+    let later = (count > 1).then_some(without_first);
+    let each = (0..3).flat_map(move |at| {
+        simpler_session(three[at]).map(move |session| {
+            let mut sessions = Sessions { count, three };
+            sessions.three[at] = session;
+            sessions
+        })
+    });
+    counts.chain(later).chain(each)
+}
+
+fn simpler_session(session: Session) -> impl Iterator<Item = Session> {
+    let nothing = (session != Session::default()).then_some(Session::default());
+    let handles = shrink::numbers(session.handle.into()).map(move |n| Session { handle: n as u32, ..session });
+    let attributes =
+        shrink::numbers(session.attributes.into()).map(move |n| Session { attributes: n as u8, ..session });
+    let nonces = simpler_field(session.nonce).map(move |nonce| Session { nonce, ..session });
+    let hmacs = simpler_field(session.hmac).map(move |hmac| Session { hmac, ..session });
+    nothing.into_iter().chain(handles).chain(attributes).chain(nonces).chain(hmacs)
+}
+
+fn simpler_field(field: Field) -> impl Iterator<Item = Field> {
+    let sizes = shrink::numbers(field.size.into()).map(move |n| Field { size: n as u16, ..field });
+    sizes.chain(shrink::numbers(field.at as u64).map(move |n| Field { at: n as usize, ..field }))
+}
+
+// ---- the suite
+
+pub fn run(random: &mut Random, thin: bool) -> Vec<Tally> {
+    #[cfg(oracle)]
+    let before = limit::explained();
+    let mut desk = Desk::new();
+    inputs::each(&mut desk, random, thin);
+    large::check(&mut desk);
+    #[cfg(oracle)]
+    {
+        tell_explained(limit::explained() - before, &mut desk);
+        differences::show(&mut desk);
+    }
+    desk.done()
+}
+
+/// As in the frame suite: there must be some, and the tallies show that no other difference is left.
+#[cfg(oracle)]
+fn tell_explained(count: u64, desk: &mut Desk) {
+    println!("write: {count} answers of tpm2-protocol are explained by its limit of eight sessions, not three (D1)");
+    if count == 0 {
+        desk.tally(Kind::Command).differs_in_all("no answer differs by the limit on sessions");
+    }
+}

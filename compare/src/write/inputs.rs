@@ -1,0 +1,196 @@
+//! The inputs of the write suite: each check of document 01's order at its limits, for every row, and all of them mixed.
+
+mod fields;
+mod mixed;
+
+use super::{Again, Desk, Kind};
+use crate::calls::{Field, Session, Sessions};
+use crate::edges;
+use crate::frame::known::{self, Row};
+use crate::frame::make;
+use crate::random::Random;
+use std::thread;
+
+/// Half of the mixed inputs have a thread, a desk and a seed of their own.
+pub fn each(desk: &mut Desk, random: &mut Random, thin: bool) {
+    let pool = Pool(random.bytes(POOL));
+    let (mut beside, mut seeded) = (Desk::new(), Random::new(random.number()));
+    thread::scope(|scope| {
+        scope.spawn(|| mixed::each(&mut beside, &pool, &mut seeded, rounds(thin)));
+        tags(desk, &pool, random, thin);
+        codes(desk, &pool, random);
+        response_codes(desk, &pool, random, thin);
+        rows(desk, &pool, random, thin);
+        made_frames(desk, random);
+        fields::each(desk, &pool, random, thin);
+        mixed::each(desk, &pool, random, rounds(thin));
+    });
+    desk.merge(&beside);
+}
+
+/// Mixed inputs of a thread.
+fn rounds(thin: bool) -> usize {
+    if thin { 20_000 } else { 2_000_000 }
+}
+
+/// Bytes enough for six fields of the largest length.
+const POOL: usize = 1 << 19;
+
+/// Random bytes, from which every input takes a part.
+struct Pool(Vec<u8>);
+
+impl Pool {
+    /// Lays so many bytes of the pool into the place.
+    fn fill(&self, place: &mut Vec<u8>, len: usize, random: &mut Random) {
+        let from = random.number() as usize % (self.0.len() - len + 1);
+        place.clear();
+        place.extend_from_slice(&self.0[from..][..len]);
+    }
+}
+
+/// Counts far beyond three, of which the first two are 0 when they are cut to 32 bits.
+const COUNTLESS: [usize; 3] = [1 << 32, 1 << 63, usize::MAX];
+
+/// From no session to one more than the crate takes, then counts beyond any.
+fn counts() -> impl Iterator<Item = usize> {
+    (0..=9).chain(COUNTLESS)
+}
+
+/// Lays a frame on the desk that passes if so many sessions do: those that there are stand one behind the other in the
+/// lent bytes, and behind the count there is garbage.
+fn good(desk: &mut Desk, kind: Kind, row: &Row, sessions: (usize, [usize; 2]), pool: &Pool, random: &mut Random) {
+    let (count, lengths) = sessions;
+    let case = &mut desk.case;
+    case.kind = kind;
+    case.cc = row.code;
+    let mut end = 1;
+    let three = [0, 1, 2].map(|at| {
+        if at >= count {
+            return garbage(random);
+        }
+        let [nonce, hmac] = lengths.map(|size| {
+            let field = Field { at: end, size: size as u16 };
+            end += size;
+            field
+        });
+        Session { handle: random.number() as u32, nonce, attributes: random.byte(), hmac }
+    });
+    case.sessions = Sessions { count, three };
+    pool.fill(&mut case.lent, end, random);
+    pool.fill(&mut case.handles, 4 * handles(kind, row), random);
+    let few = usize::from(random.byte() % 7);
+    pool.fill(&mut case.parameters, few, random);
+    case.number = match kind {
+        Kind::Command => 0x8001 + u32::from(count > 0),
+        Kind::Response => 0,
+    };
+}
+
+/// A session whose fields are not there.
+fn garbage(random: &mut Random) -> Session {
+    let [nonce, hmac] = [(); 2].map(|()| Field { at: random.number() as usize, size: random.number() as u16 });
+    Session { handle: random.number() as u32, nonce, attributes: random.byte(), hmac }
+}
+
+fn handles(kind: Kind, row: &Row) -> usize {
+    if kind == Kind::Command { row.handles } else { row.responses }
+}
+
+/// Makes the call on the desk with room that is one short, just enough, one over, much longer, and none at all.
+fn in_rooms(desk: &mut Desk) {
+    let needed = desk.case.needed();
+    for room in [needed, needed - 1, needed + 1, needed + 1_000, 0] {
+        desk.ask_in(room);
+    }
+}
+
+// ---- one check at a time
+
+/// Every tag, with counts that fit the one or the other of the two.
+fn tags(desk: &mut Desk, pool: &Pool, random: &mut Random, thin: bool) {
+    let row = known::row(0x15E).expect("a row");
+    let step = if thin { 17 } else { 1 };
+    for tag in (0..=u16::MAX).filter(|&tag| tag % step == 0 || known::is_tag(tag)) {
+        for count in [0, 1, 2, 3, 4, usize::MAX] {
+            good(desk, Kind::Command, &row, (count, [3, 2]), pool, random);
+            desk.case.number = tag.into();
+            let needed = desk.case.needed();
+            [needed, needed - 1].into_iter().for_each(|room| desk.ask_in(room));
+        }
+    }
+}
+
+/// Codes with a row and without, with handle bytes for each number of handles.
+fn codes(desk: &mut Desk, pool: &Pool, random: &mut Random) {
+    let any = known::row(0x144).expect("a row");
+    let codes = (0..0x400).chain(0x1FFF_FF00..0x2000_0100).chain([1 << 31, u32::MAX - 1, u32::MAX]);
+    for (code, kind) in codes.flat_map(|code| Kind::ALL.map(|kind| (code, kind))) {
+        for (count, handles) in [0, 1, 3, 4].iter().flat_map(|&count| [0, 4, 8, 12].map(|len| (count, len))) {
+            good(desk, kind, &any, (count, [0, 1]), pool, random);
+            desk.case.cc = code;
+            pool.fill(&mut desk.case.handles, handles, random);
+            let needed = desk.case.needed();
+            [needed, needed - 1].into_iter().for_each(|room| desk.ask_in(room));
+        }
+    }
+}
+
+/// Response codes, of which the last that reads is below 0x1000: with sessions, with handle bytes that the row does not
+/// ask for, and with room around that of a bare header.
+fn response_codes(desk: &mut Desk, pool: &Pool, random: &mut Random, thin: bool) {
+    let rows = [0x144, 0x131].map(|code| known::row(code).expect("a row"));
+    let high = (12..32).flat_map(|bit| [1 << bit, 1 << bit | 0x184, (1 << bit) - 1]).chain([u32::MAX]);
+    let step = if thin { 31 } else { 1 };
+    for code in (0..0x2000).filter(|&code| code % step == 0 || known::reads(code)).chain(high) {
+        for (row, count) in rows.iter().flat_map(|row| [0, 1, 3, 4, usize::MAX].map(|count| (row, count))) {
+            good(desk, Kind::Response, row, (count, [1, 1]), pool, random);
+            desk.case.number = code;
+            for handles in [4 * row.responses, 3] {
+                pool.fill(&mut desk.case.handles, handles, random);
+                [0, 9, 10, 11, 60].into_iter().for_each(|room| desk.ask_in(room));
+            }
+        }
+    }
+}
+
+/// Every row with every count of sessions, with handle bytes around what it asks for, and with parameters and none.
+fn rows(desk: &mut Desk, pool: &Pool, random: &mut Random, thin: bool) {
+    for (row, kind) in known::rows().flat_map(|row| Kind::ALL.map(|kind| (Row { ..row }, kind))) {
+        let asked = 4 * handles(kind, &row);
+        let mut lengths = edges::near(&[0, asked]);
+        lengths.extend([asked.saturating_sub(4), asked + 4, 100]);
+        for (count, len) in counts().flat_map(|count| lengths.iter().map(move |&len| (count, len))) {
+            if thin && len != asked && random.byte() > 31 {
+                continue;
+            }
+            for parameters in [0, 1, 13] {
+                good(desk, kind, &row, (count, random.pick(&[[0, 0], [1, 0], [0, 2], [20, 32]])), pool, random);
+                pool.fill(&mut desk.case.handles, len, random);
+                pool.fill(&mut desk.case.parameters, parameters, random);
+                in_rooms(desk);
+            }
+        }
+    }
+}
+
+/// Frames of every row, with each number of entries and without an area, written again from their parts; and a bare
+/// error.
+fn made_frames(desk: &mut Desk, random: &mut Random) {
+    let mut again = Again::new();
+    for row in known::rows() {
+        for count in [None, Some(0), Some(1), Some(2), Some(3)] {
+            for parameters in [0, 1, 20] {
+                let [command, response] = [true, false].map(|command| {
+                    let entries = make::entries(command, count.unwrap_or(0), (20, 32), random).bytes;
+                    let make = if command { make::command } else { make::response };
+                    make(&row, count.map(|_| entries.as_slice()), &random.bytes(parameters), random)
+                });
+                again.command(&command);
+                again.response(row.code, &response);
+            }
+        }
+        again.response(row.code, &make::fields(make::PLAIN, 10, 0x101));
+    }
+    again.tell("write");
+    desk.merge(&again.desk);
+}

@@ -1,0 +1,57 @@
+//! Totals that no size field holds. The parameters are zeros that nobody reads: they take addresses and no memory. No
+//! case can hold them, since what a case holds is copied for each call.
+
+use super::{Desk, Kind, rules, without_sessions};
+use crate::calls::{self, Handed};
+use crate::shown::came_to;
+
+/// The largest total.
+const LARGEST: usize = u32::MAX as usize;
+
+/// A command and a success, of the largest total and of more, into room for a few bytes.
+pub fn check(desk: &mut Desk) {
+    if Vec::<u8>::new().try_reserve_exact(LARGEST).is_err() {
+        println!("write: no call with a total of {LARGEST} or more, since there is no memory for one");
+        return;
+    }
+    let zeros = vec![0; LARGEST];
+    for (more, kind) in [0, 1, 2, 10].iter().flat_map(|more| Kind::ALL.map(|kind| (more, kind))) {
+        let given = without_sessions(&[], &zeros[..LARGEST - 10 + more]);
+        let ours = came_to(ROOM, |room, out| match kind {
+            Kind::Command => calls::command_write(0x8001, 0x144, given, room, out),
+            Kind::Response => calls::response_write(0, 0x144, given, room, out),
+        });
+        let rules = came_to(ROOM, |room, out| match kind {
+            Kind::Command => rules::command_write(0x8001, 0x144, given, room, out),
+            Kind::Response => rules::response_write(0, 0x144, given, room, out),
+        });
+        for right in [Some(rules), by_crate(kind, given)].into_iter().flatten() {
+            if ours != right {
+                desk.tally(kind).differs_in_all(&format!("a total of {}: {ours}, not {right}", LARGEST + more));
+            }
+        }
+    }
+    println!("write: also commands and responses of a total of {LARGEST} and more");
+}
+
+const ROOM: usize = 12;
+
+/// None where the total is not above the largest: then the room is short, of which the crate is not asked.
+#[cfg(oracle)]
+fn by_crate(kind: Kind, given: Handed) -> Option<String> {
+    use super::oracle;
+    (given.parameters.len() > LARGEST - 10).then(|| {
+        came_to(ROOM, |room, out| {
+            let said = match kind {
+                Kind::Command => oracle::command_write(0x8001, 0x144, given, room, out),
+                Kind::Response => oracle::response_write(0, 0x144, given, room, out),
+            };
+            said.expect("the crate can be asked")
+        })
+    })
+}
+
+#[cfg(not(oracle))]
+fn by_crate(_: Kind, _: Handed) -> Option<String> {
+    None
+}
