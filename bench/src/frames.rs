@@ -4,9 +4,9 @@
 //! What the Rust needs to have at hand before it can be asked is made outside of the loop: the view for `validate` and
 //! for the areas, the command as a member of `TpmCc`, and the number of a response's handles.
 
-use crate::calls::{self, Out};
+use crate::calls::{self, Frame, Out, Parts};
 use crate::frame::{known, make, oracle, real};
-use crate::oracle::{give, tell};
+use crate::oracle::tell;
 use crate::random::Random;
 use crate::rows::{Side, repeat};
 use std::hint::black_box;
@@ -16,8 +16,8 @@ use tpm2_protocol::frame::{TpmCommand, TpmResponse};
 
 /// A command and its response, both of which pass.
 pub struct Pair {
-    command: Vec<u8>,
-    response: Vec<u8>,
+    pub command: Vec<u8>,
+    pub response: Vec<u8>,
 }
 
 /// The real ones, read once: a round of calls is short.
@@ -29,14 +29,15 @@ pub fn real() -> &'static [Pair] {
     })
 }
 
-/// One pair with so many entries and parameter bytes.
+/// One pair with so many entries and parameter bytes; without entries it is under the plain tag.
 pub fn made(entries: usize, parameters: usize) -> [Pair; 1] {
     let random = &mut Random::new(1);
     let row = known::row(0x131).expect("a row");
     let parameters = vec![0x5A; parameters];
-    let [asked, answered] = [true, false].map(|command| make::entries(command, entries, (32, 32), random).bytes);
-    let command = make::command(&row, Some(&asked), &parameters, random);
-    [Pair { command, response: make::response(&row, Some(&answered), &parameters, random) }]
+    let areas = [true, false].map(|command| make::entries(command, entries, (32, 32), random).bytes);
+    let [asked, answered] = areas.each_ref().map(|area| Some(area.as_slice()).filter(|area| !area.is_empty()));
+    let command = make::command(&row, asked, &parameters, random);
+    [Pair { command, response: make::response(&row, answered, &parameters, random) }]
 }
 
 impl Pair {
@@ -50,13 +51,31 @@ impl Pair {
         TpmCommand::cast(&self.command).expect("the command passes")
     }
 
-    fn answer(&self) -> Answer<'_> {
-        let code = real::code(&self.command);
-        let cc = TpmCc::try_from(code).expect("the code is known");
-        let handles = known::row(code).expect("a row").responses;
-        let view = TpmResponse::cast(&self.response).expect("the response passes");
-        Answer { code, cc, handles, bytes: &self.response, view }
+    pub fn cc(&self) -> TpmCc {
+        TpmCc::try_from(real::code(&self.command)).expect("the code is known")
     }
+
+    fn answer(&self) -> Answer<'_> {
+        let cc = self.cc();
+        let handles = known::row(cc.value()).expect("a row").responses;
+        let view = TpmResponse::cast(&self.response).expect("the response passes");
+        Answer { code: cc.value(), cc, handles, bytes: &self.response, view }
+    }
+
+    /// All parts of the command.
+    pub fn command_frame(&self) -> Frame {
+        passed(calls::command_parts(&self.command, &mut [0; 8]))
+    }
+
+    /// All parts of the response.
+    pub fn response_frame(&self) -> Frame {
+        passed(calls::response_parts(self.cc().value(), &self.response, &mut [0; 8]))
+    }
+}
+
+fn passed(parts: Parts) -> Frame {
+    assert_eq!(parts.refusal, 0, "the frame is refused");
+    parts.frame
 }
 
 /// A response, with what is known of its command.
@@ -69,7 +88,7 @@ struct Answer<'a> {
 }
 
 /// Makes so many calls, on one item after the other.
-fn each<T>(items: &[T], n: u64, call: fn(&T, &mut Out) -> u32) {
+pub fn each<T>(items: &[T], n: u64, call: fn(&T, &mut Out) -> u32) {
     let call = black_box(call);
     let mut at = 0;
     repeat(n, |out| {
@@ -84,7 +103,7 @@ pub fn command_cast(side: Side, n: u64) {
         n,
         match side {
             Side::Ours => |pair: &Pair, out| calls::command_cast(&pair.command, out),
-            Side::Rust => |pair, out| oracle::command_cast(&pair.command, out),
+            Side::Other => |pair, out| oracle::command_cast(&pair.command, out),
             Side::Empty => |_, _| 0,
         },
     );
@@ -96,7 +115,7 @@ pub fn response_cast(side: Side, n: u64) {
         n,
         match side {
             Side::Ours => |pair: &Pair, out| calls::response_cast(&pair.response, out),
-            Side::Rust => |pair, out| oracle::response_cast(&pair.response, out),
+            Side::Other => |pair, out| oracle::response_cast(&pair.response, out),
             Side::Empty => |_, _| 0,
         },
     );
@@ -109,7 +128,7 @@ pub fn command_validate(side: Side, n: u64, pairs: &[Pair]) {
         n,
         match side {
             Side::Ours => |view: &&TpmCommand, out| calls::command_validate(view.as_bytes(), out),
-            Side::Rust => |view, out| tell(view.validate(), |()| [], out),
+            Side::Other => |view, out| tell(view.validate(), |()| [], out),
             Side::Empty => |_, _| 0,
         },
     );
@@ -122,7 +141,7 @@ pub fn response_validate(side: Side, n: u64, pairs: &[Pair]) {
         n,
         match side {
             Side::Ours => |answer: &Answer, out| calls::response_validate(answer.code, answer.bytes, out),
-            Side::Rust => |answer, out| tell(answer.view.validate(answer.cc), |()| [], out),
+            Side::Other => |answer, out| tell(answer.view.validate(answer.cc), |()| [], out),
             Side::Empty => |_, _| 0,
         },
     );
@@ -139,7 +158,7 @@ pub fn command_areas(side: Side, n: u64) {
                 let s = view.as_bytes();
                 calls::command_handles(s, out) | calls::command_auth_area(s, out) | calls::command_parameters(s, out)
             },
-            Side::Rust => |view, out| {
+            Side::Other => |view, out| {
                 let lengths = || Ok([view.handles()?.len(), view.auth_area()?.len(), view.parameters()?.len()]);
                 tell(lengths(), |lengths| lengths.map(|len| len as u64), out)
             },
@@ -153,9 +172,9 @@ pub fn command_parts(side: Side, n: u64) {
         &real(),
         n,
         match side {
-            Side::Ours => |pair: &Pair, out| calls::command_parts(&pair.command, black_box(&mut [0; 18]), out),
-            Side::Rust => |pair, out| oracle::command_parts(&pair.command, black_box(&mut [0; 18]), out),
-            Side::Empty => |_, out| give([], black_box(out)),
+            Side::Ours => |pair: &Pair, out| black_box(&calls::command_parts(&pair.command, out)).refusal,
+            Side::Other => |pair, out| black_box(&oracle::command_parts(&pair.command, out)).refusal,
+            Side::Empty => |_, _| 0,
         },
     );
 }
@@ -166,11 +185,9 @@ pub fn response_parts(side: Side, n: u64) {
         &answers,
         n,
         match side {
-            Side::Ours => |it: &Answer, out| calls::response_parts(it.code, it.bytes, black_box(&mut [0; 18]), out),
-            Side::Rust => {
-                |it, out| oracle::response_parts_of(it.cc, it.handles, it.bytes, black_box(&mut [0; 18]), out)
-            }
-            Side::Empty => |_, out| give([], black_box(out)),
+            Side::Ours => |it: &Answer, out| black_box(&calls::response_parts(it.code, it.bytes, out)).refusal,
+            Side::Other => |it, out| black_box(&oracle::response_parts_of(it.cc, it.handles, it.bytes, out)).refusal,
+            Side::Empty => |_, _| 0,
         },
     );
 }

@@ -1,8 +1,10 @@
-//! Measures calls of the proved library beside the same calls of the crate tpm2-protocol.
+//! Measures calls of the proved library beside the same calls of the crate tpm2-protocol, and beside tpm2-tss.
 //!
-//! usage: bench --rows                  prints the rows' names, one a line
-//!        bench --time ROW              prints nanoseconds a call: ours, the Rust's
-//!        bench --count ROW SIDE N      makes N calls of a side (ours, rust or empty), to be counted from outside
+//! usage: bench BESIDE --rows                  prints the rows' names, one a line
+//!        bench BESIDE --time ROW              prints nanoseconds a call: ours, the other side's
+//!        bench BESIDE --count ROW SIDE N      makes N calls of a side, to be counted from outside
+//!
+//! BESIDE is rust or tss; SIDE is ours, other or empty.
 
 // no row measures every call
 #[allow(dead_code)]
@@ -18,18 +20,31 @@ mod oracle;
 mod random;
 mod rows;
 mod time;
+mod tss;
+#[allow(dead_code)]
+#[path = "../../compare/src/write/oracle.rs"]
+mod write_oracle;
+mod writers;
 
-use rows::{ROWS, Row, Side};
+use rows::{Row, Side};
 use std::process::ExitCode;
 
-fn row(name: &str) -> Result<&'static Row, String> {
-    ROWS.iter().find(|row| row.name == name).ok_or(format!("there is no row '{name}'"))
+fn rows(beside: &str) -> Result<&'static [Row], String> {
+    match beside {
+        "rust" => Ok(rows::ROWS),
+        "tss" => Ok(tss::ROWS),
+        _ => Err(format!("there is nothing beside '{beside}'")),
+    }
+}
+
+fn row(beside: &str, name: &str) -> Result<&'static Row, String> {
+    rows(beside)?.iter().find(|row| row.name == name).ok_or(format!("there is no row '{name}'"))
 }
 
 fn side(name: &str) -> Result<Side, String> {
     match name {
         "ours" => Ok(Side::Ours),
-        "rust" => Ok(Side::Rust),
+        "other" => Ok(Side::Other),
         "empty" => Ok(Side::Empty),
         _ => Err(format!("there is no side '{name}'")),
     }
@@ -37,14 +52,14 @@ fn side(name: &str) -> Result<Side, String> {
 
 fn run(words: &[&str]) -> Result<(), String> {
     match words {
-        ["--rows"] => ROWS.iter().for_each(|row| println!("{}", row.name)),
-        ["--time", name] => {
-            let [ours, rust] = time::beside(row(name)?);
-            println!("{ours:.2} {rust:.2}");
+        [beside, "--rows"] => rows(beside)?.iter().for_each(|row| println!("{}", row.name)),
+        [beside, "--time", name] => {
+            let [ours, other] = time::beside(row(beside, name)?);
+            println!("{ours:.2} {other:.2}");
         }
-        ["--count", name, of, n] => {
+        [beside, "--count", name, of, n] => {
             let n = n.parse().map_err(|_| format!("'{n}' is no number of calls"))?;
-            (row(name)?.run)(side(of)?, n);
+            (row(beside, name)?.run)(side(of)?, n);
         }
         _ => return Err("see the head of src/main.rs for its usage".into()),
     }

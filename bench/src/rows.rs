@@ -8,13 +8,15 @@ use crate::calls::{self, Data, Out};
 use crate::frames;
 use crate::oracle;
 use crate::random::Random;
+use crate::writers;
 use std::hint::black_box;
 use tpm2_protocol::basic::TpmBuffer;
 
 #[derive(Clone, Copy)]
 pub enum Side {
     Ours,
-    Rust,
+    /// What we are measured beside.
+    Other,
     /// Does nothing: what is counted here is the loop's, not the call's.
     Empty,
 }
@@ -25,6 +27,7 @@ pub struct Row {
     pub run: fn(Side, u64),
 }
 
+/// The rows beside the Rust.
 pub static ROWS: &[Row] = &[
     Row { name: "rc read, random codes", run: |side, n| rc_read(&random_codes(), side, n) },
     Row { name: "rc read, the commonest codes", run: |side, n| rc_read(&COMMON_CODES, side, n) },
@@ -61,6 +64,30 @@ pub static ROWS: &[Row] = &[
         name: "the same with 3,000 parameter bytes",
         run: |side, n| frames::response_validate(side, n, &frames::made(3, 3000)),
     },
+    Row { name: "command write, no session", run: |side, n| writers::command(side, n, &frames::made(0, 8)) },
+    Row { name: "command write, 1 session", run: |side, n| writers::command(side, n, &frames::made(1, 8)) },
+    Row { name: "command write, 2 sessions", run: |side, n| writers::command(side, n, &frames::made(2, 8)) },
+    Row { name: "command write, 3 sessions", run: |side, n| writers::command(side, n, &frames::made(3, 8)) },
+    Row {
+        name: "command write, 1 session, 3,000 bytes",
+        run: |side, n| writers::command(side, n, &frames::made(1, 3000)),
+    },
+    Row {
+        name: "command write, 3 sessions, 3,000 bytes",
+        run: |side, n| writers::command(side, n, &frames::made(3, 3000)),
+    },
+    Row { name: "response write, no session", run: |side, n| writers::response(side, n, &frames::made(0, 8)) },
+    Row { name: "response write, 1 session", run: |side, n| writers::response(side, n, &frames::made(1, 8)) },
+    Row { name: "response write, 2 sessions", run: |side, n| writers::response(side, n, &frames::made(2, 8)) },
+    Row { name: "response write, 3 sessions", run: |side, n| writers::response(side, n, &frames::made(3, 8)) },
+    Row {
+        name: "response write, 1 session, 3,000 bytes",
+        run: |side, n| writers::response(side, n, &frames::made(1, 3000)),
+    },
+    Row {
+        name: "response write, 3 sessions, 3,000 bytes",
+        run: |side, n| writers::response(side, n, &frames::made(3, 3000)),
+    },
 ];
 
 pub fn repeat(n: u64, mut call: impl FnMut(&mut Out) -> u32) {
@@ -83,7 +110,7 @@ fn random_codes() -> [u32; 1024] {
 fn rc_read<const COUNT: usize>(codes: &[u32; COUNT], side: Side, n: u64) {
     let call: fn(u32, &mut Out) -> u32 = match side {
         Side::Ours => calls::rc_read,
-        Side::Rust => oracle::rc_read,
+        Side::Other => oracle::rc_read,
         Side::Empty => |_, _| 0,
     };
     let call = black_box(call);
@@ -99,7 +126,7 @@ fn rc_read<const COUNT: usize>(codes: &[u32; COUNT], side: Side, n: u64) {
 fn view<const CAPACITY: usize, const LEN: usize>(side: Side, n: u64) {
     let call: fn(usize, &[u8], &mut Out) -> u32 = match side {
         Side::Ours => calls::tpm2b_validate_prefix,
-        Side::Rust => |_, s, out| oracle::tpm2b_validate_prefix::<CAPACITY>(s, out),
+        Side::Other => |_, s, out| oracle::tpm2b_validate_prefix::<CAPACITY>(s, out),
         Side::Empty => |_, _, _| 0,
     };
     let call = black_box(call);
@@ -115,7 +142,7 @@ where
 {
     match side {
         Side::Ours => extend_by::<_, N>(n, [0; N], Data::extend),
-        Side::Rust => extend_by::<_, N>(n, TpmBuffer::<N>::new(), |_, buffer, s, out| {
+        Side::Other => extend_by::<_, N>(n, TpmBuffer::<N>::new(), |_, buffer, s, out| {
             *buffer = TpmBuffer::new();
             oracle::buffer_extend(buffer, s, out)
         }),
@@ -139,7 +166,7 @@ where
     let data = [0x5A; N];
     match side {
         Side::Ours => marshal_by::<_, N>(n, data, Data::marshal),
-        Side::Rust => {
+        Side::Other => {
             let buffer = oracle::buffer::<N>(N as u16, &data).expect("the data is as long as the capacity");
             marshal_by::<_, N>(n, buffer, |_, buffer, room, out| oracle::buffer_marshal(buffer, room, out));
         }

@@ -7,9 +7,9 @@ use std::time::{Duration, Instant};
 const ROUNDS: usize = 31;
 const ROUND: Duration = Duration::from_millis(5);
 
-/// Ours and the Rust's.
+/// Ours and the other side's.
 pub fn beside(row: &Row) -> [f64; 2] {
-    let sides = [Side::Ours, Side::Rust];
+    let sides = [Side::Ours, Side::Other];
     let calls = sides.map(|side| calls_a_round(row, side));
     let mut rounds = [const { Vec::new() }; 2];
     for _ in 0..ROUNDS {
