@@ -1,12 +1,12 @@
 -- What every width of field shares: each law is over the width w, and the proofs of the functions cite it.
 -- Assumes nothing.
-use mathlib.Core.Path.{_≡_, sym, ap}
+use mathlib.Core.Path.{_≡_, refl, sym, _∙_, ap}
 use mathlib.Core.List.{List, [], _∷_, _++_}
 use Prim.Native.Nat.{ℕ, _+_, _-_, _≤_, _<_}
 use native.Mathlib.Omega.{arith}
 use borrow.Author.Tests.{le-leb, lt-leb}
 use lib.ListN.{length, take, drop}
-use lib.Seq.{sets}
+use lib.Seq.{sets, take-at}
 use Rattle.base.specs.Bytes.{number, bytes}
 use Rattle.base.specs.Said.{gives, refuses, done, after}
 use Rattle.base.specs.Field.{readField, writeField, writeBytes}
@@ -53,3 +53,7 @@ module _ (place : ℕ) (t s : List ℕ) where
   pub bytes-put : {later : List ℕ} → length t ≤ length s - place → later ≡ after s (writeBytes place t s)
       → later ≡ take place s ++ (t ++ drop (place + length t) s)
   bytes-put h e = rw (le-leb (length t) (length s - place) h) at e
+
+-- bytes that were put at the start of others are found there
+pub through : (t s : List ℕ) {later : List ℕ} → later ≡ take 0 s ++ (t ++ drop (0 + length t) s) → take (length t) later ≡ t
+through t s e = ap (take (length t)) e ∙ take-at t (drop (0 + length t) s) (length t) refl

@@ -17,7 +17,7 @@ use Rattle.frame.specs.Answer.{handleWidth}
 use Rattle.frame.specs.Header.{sessions}
 use Rattle.frame.specs.Parts.{entriesOf}
 use Rattle.marshal.specs.Handed.{Handed}
-use Rattle.marshal.specs.Write.{capped, sessionThere, sessionsThere, entryLength, entriesLength, totalSize, fitted, judged}
+use Rattle.marshal.specs.Write.{capped, sessionThere, sessionsThere, entryLength, entriesLength, entriesSaid, totalSize, fitted, judged}
 
 pub handle-width : (b : Bool) → handleWidth b ≤ 4
 handle-width true = omega arith
@@ -28,9 +28,6 @@ handle-width false = omega arith
 module _ (width len : ℕ) where
   abbrev pub entrySaid : Session → Said ℕ
   entrySaid e = then (sessionThere len e) λ there. gives (entryLength width e)
-
-  abbrev pub entriesSaid : List Session → Said ℕ
-  entriesSaid es = then (sessionsThere len es) λ there. gives (entriesLength width es)
 
   module _ (e : Session) where
     pub nonce-missing : leb (e .nonce .at + e .nonce .size) len ≡ false
@@ -57,17 +54,17 @@ module _ (width len : ℕ) where
 
   -- ---- and those of all
 
-  pub no-more : gives 0 ≡ entriesSaid []
+  pub no-more : gives 0 ≡ entriesSaid width len []
   unfolding sessionsThere
   no-more = refl
 
   module _ (e : Session) (es : List Session) where
-    pub first-missing : {why : List ℕ} → refuses why ≡ entrySaid e → refuses why ≡ entriesSaid (e ∷ es)
+    pub first-missing : {why : List ℕ} → refuses why ≡ entrySaid e → refuses why ≡ entriesSaid width len (e ∷ es)
     unfolding sessionsThere
     first-missing said = rw (entry-stops e said)
 
     module _ {a : ℕ} (first : gives a ≡ entrySaid e) where
-      pub later-missing : {why : List ℕ} → refuses why ≡ entriesSaid es → refuses why ≡ entriesSaid (e ∷ es)
+      pub later-missing : {why : List ℕ} → refuses why ≡ entriesSaid width len es → refuses why ≡ entriesSaid width len (e ∷ es)
       unfolding sessionsThere
       later-missing said = rw (entry-length e first .0) (by (sessionsThere len es) said)
         where
@@ -76,16 +73,16 @@ module _ (width len : ℕ) where
           by (gives u) r = absurd (gives≢refuses (sym r))
           by (refuses other) r = ap refuses (refuses-injective r)
 
-      pub with-later : {b : ℕ} → gives b ≡ entriesSaid es → gives (a + b) ≡ entriesSaid (e ∷ es)
+      pub with-later : {b : ℕ} → gives b ≡ entriesSaid width len es → gives (a + b) ≡ entriesSaid width len (e ∷ es)
       unfolding sessionsThere
       with-later said =
           let there = then-gives (sessionsThere len es) _ (sym said) in
           rw (entry-length e first .0, there .1, entry-length e first .1, ← gives-injective (there .2))
 
-  pub last-there : (e : Session) {a : ℕ} → gives a ≡ entrySaid e → gives a ≡ entriesSaid (e ∷ [])
+  pub last-there : (e : Session) {a : ℕ} → gives a ≡ entrySaid e → gives a ≡ entriesSaid width len (e ∷ [])
   last-there e {a} first = ap gives (sym (add-zero a)) ∙ with-later e [] first no-more
 
-  pub entries-are : (es : List Session) {n : ℕ} → gives n ≡ entriesSaid es → n ≡ entriesLength width es
+  pub entries-are : (es : List Session) {n : ℕ} → gives n ≡ entriesSaid width len es → n ≡ entriesLength width es
   entries-are es said = sym (gives-injective (then-gives (sessionsThere len es) _ (sym said) .2))
 
 -- ---- how long they can get: a length is of 16 bits
@@ -110,6 +107,14 @@ entries-small b es first second third =
     let three = entry-small b (es .third) third in
     omega arith
 
+-- what was found of them, as a bound
+pub entries-bound : (b : Bool) (len : ℕ) (es : Entries) → SizesFit (es .first) → SizesFit (es .second) → SizesFit (es .third)
+    → {said : Said ℕ} → said ≡ entriesSaid (handleWidth b) len (entriesOf es) → (n : ℕ) → said ≡ gives n → n ≤ 393237
+entries-bound b len es first second third found n e =
+    let is = entries-are (handleWidth b) len (entriesOf es) (sym e ∙ found) in
+    let few = entries-small b es first second third in
+    omega arith
+
 pub size-small : (tag : ℕ) → cond (eqb tag sessions) 4 0 ≤ 4
 size-small tag = by (eqb tag sessions)
   where
@@ -132,6 +137,12 @@ large-capped n h = by (leb n 18446744073709551615) refl h
     by : (b : Bool) → leb n 18446744073709551615 ≡ b → 4294967295 < cond b n 18446744073709551615 → 4294967295 < n
     by true e h = h
     by false e h = let more = leb-false n 18446744073709551615 e in omega arith
+
+-- the sum that was made, of the parts of what was handed over
+pub sum-of : (tag : ℕ) (h : Handed) (handles entries : ℕ) {size parameters total : ℕ}
+    → total ≡ capped (10 + handles + size + entries + parameters) → size ≡ cond (eqb tag sessions) 4 0 → length (h .parameters) ≡ parameters
+    → total ≡ capped (10 + handles + cond (eqb tag sessions) 4 0 + entries + length (h .parameters))
+sum-of tag h handles entries {size} {parameters} {total} sum is ps = rw (is, ← ps) at sum
 
 module _ (width tag handles : ℕ) (h : Handed) (room : ℕ) where
   pub few-handles : length (h .handles) < 4 * handles → refuses (1 ∷ 0 ∷ (4 * handles) ∷ length (h .handles) ∷ []) ≡ judged width tag handles h room

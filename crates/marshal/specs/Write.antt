@@ -41,6 +41,10 @@ abbrev pub entriesLength : ℕ → List Session → ℕ
 entriesLength width [] = 0
 entriesLength width (e ∷ es) = entryLength width e + entriesLength width es
 
+-- how long the entries are, where all that they name is there
+abbrev pub entriesSaid : ℕ → ℕ → List Session → Said ℕ
+entriesSaid width len es = then (sessionsThere len es) λ there. gives (entriesLength width es)
+
 -- "Total size is 10 + handles + 4 under 0x8002 + entries + parameters"
 abbrev pub totalSize : ℕ → ℕ → Handed → ℕ
 totalSize width tag h =

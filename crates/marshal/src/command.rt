@@ -11,6 +11,7 @@ use crate::put::put;
 use crate::put::put_entries;
 use crate::put::put_header;
 use crate::put::put_u32;
+use crate::total::entries_length;
 use crate::total::judge;
 use crate::total::tag_for;
 use crate::total::too_many;
@@ -41,13 +42,11 @@ fn judge_command(
         return match find(cc) {
             Found::Refused(e) => Count::Refused(e),
             Found::Is(row) => judge(
-                true,
                 tag.0,
                 row.handles,
-                handles,
-                sessions,
-                lent,
-                parameters,
+                handles.len(),
+                entries_length(true, sessions, lent.len()),
+                parameters.len(),
                 room,
             ),
         };

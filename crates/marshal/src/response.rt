@@ -14,6 +14,7 @@ use crate::put::put;
 use crate::put::put_entries;
 use crate::put::put_header;
 use crate::put::put_u32;
+use crate::total::entries_length;
 use crate::total::fits;
 use crate::total::judge;
 use crate::total::tag_for;
@@ -66,15 +67,12 @@ fn judge_response(
         Found::Refused(e) => Count::Refused(e),
         Found::Is(row) => {
             if rc.0 == 0 {
-                let tag = tag_for(sessions.count);
                 return judge(
-                    false,
-                    tag,
+                    tag_for(sessions.count),
                     row.responses,
-                    handles,
-                    sessions,
-                    lent,
-                    parameters,
+                    handles.len(),
+                    entries_length(false, sessions, lent.len()),
+                    parameters.len(),
                     room,
                 );
             }

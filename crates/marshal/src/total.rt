@@ -1,17 +1,18 @@
 // How long a frame gets, and whether it can be written: nothing here touches the room.
 ghost use mathlib.Core.Path.{_≡_};
 ghost use mathlib.Core.List.{[], _∷_};
-ghost use Prim.Native.Nat.{_+_, _-_};
+ghost use Prim.Native.Nat.{ℕ, _+_, _-_, _≤_};
 ghost use mathlib.Core.Bool.{cond};
 ghost use lib.Dec.{eqb, leb};
 ghost use Rattle.base.specs.Answer.{saidCount};
 ghost use Rattle.base.specs.Error.{numbered};
 ghost use Rattle.base.specs.Said.{gives, then};
+ghost use lib.ListN.{length};
 ghost use Rattle.frame.specs.Answer.{handleWidth};
 ghost use Rattle.frame.specs.Header.{sessions};
 ghost use Rattle.frame.specs.Parts.{entriesOf};
-ghost use Rattle.marshal.specs.Handed.{handed, tagFor};
-ghost use Rattle.marshal.specs.Write.{capped, entriesLength, entryLength, fitted, judged, sessionThere, sessionsThere};
+ghost use Rattle.marshal.specs.Handed.{Handed, tagFor};
+ghost use Rattle.marshal.specs.Write.{capped, entriesSaid, entryLength, fitted, judged, sessionThere};
 use base::answer::Count;
 use base::error::TpmError;
 use base::field::left;
@@ -94,12 +95,20 @@ fn entry_length(command: bool, e: Session, lent: usize) -> Count
     Count::Refused(missing(e.nonce, lent))
 }
 
-fn entries_length(command: bool, es: Entries, lent: usize) -> Count
-    ensures { λ r. ⌜ saidCount r ≡ then (sessionsThere lent (entriesOf es)) (λ there. gives (entriesLength (handleWidth command) (entriesOf es))) ⌝ }
+// The bytes that the entries take. Without sessions the records are not looked at, nor copied.
+pub(crate) fn entries_length(command: bool, es: Entries, lent: usize) -> Count
+    ensures { λ r. ⌜ saidCount r ≡ entriesSaid (handleWidth command) lent (entriesOf es) ⌝ }
 {
     if es.count == 0 {
         return Count::Is(0);
     }
+    some_length(command, es, lent)
+}
+
+fn some_length(command: bool, es: Entries, lent: usize) -> Count
+    requires { ⌜ (es .count ≡ 0 → ⊥) ⌝ }
+    ensures { λ r. ⌜ saidCount r ≡ entriesSaid (handleWidth command) lent (entriesOf es) ⌝ }
+{
     let first = entry_length(command, es.first, lent);
     let Count::Is(a) = first else {
         return first;
@@ -135,41 +144,36 @@ pub(crate) fn fits(total: usize, room: usize) -> Count
     Count::Is(total)
 }
 
-// What both writers judge, from the handles on.
+// What both writers judge, from the handles on: so many handle bytes, entries as they were found, so many parameter bytes.
 pub(crate) fn judge(
-    command: bool,
     tag: u16,
     count: u8,
-    handles: &[u8],
-    es: Entries,
-    lent: &[u8],
-    parameters: &[u8],
+    handles: usize,
+    entries: Count,
+    parameters: usize,
     room: usize,
 ) -> Count
-    ensures { λ r. ⌜ saidCount r ≡ judged (handleWidth command) tag count (handed (now (handles .entry)) es (now (lent .entry)) (now (parameters .entry))) room ⌝ }
+    requires { ⌜ ((n : ℕ) → saidCount entries ≡ gives n → n ≤ 393237) ⌝ }
+    ensures { λ r. ⌜ ((width : ℕ) (h : Handed) → length (h .handles) ≡ handles → saidCount entries ≡ entriesSaid width (length (h .lent)) (entriesOf (h .sessions)) → length (h .parameters) ≡ parameters → saidCount r ≡ judged width tag count h room) ⌝ }
 {
     let needed = 4 * (count as usize);
-    if handles.len() < needed {
+    if handles < needed {
         return Count::Refused(TpmError::UnexpectedEnd {
             offset: 0,
             needed,
-            available: handles.len(),
+            available: handles,
         });
     }
-    if needed < handles.len() {
+    if needed < handles {
         return Count::Refused(TpmError::TrailingData {
             offset: needed,
-            actual: handles.len() - needed,
+            actual: handles - needed,
         });
     }
-    let entries = entries_length(command, es, lent.len());
-    let Count::Is(entries) = entries else {
+    let Count::Is(taken) = entries else {
         return entries;
     };
-    let total = capped_sum(
-        HEADER_SIZE + needed + size_field(tag) + entries,
-        parameters.len(),
-    );
+    let total = capped_sum(HEADER_SIZE + needed + size_field(tag) + taken, parameters);
     if LARGEST_SIZE < total {
         return Count::Refused(TpmError::IntegerTooLarge {
             offset: 0,

@@ -1,87 +1,78 @@
--- `base::field::write_bytes` meets its contract. The test on what is left decides as the definition does; behind it the invariant: the first i
--- bytes are copied, and the rest is as it was.
+-- `base::field::write_bytes` meets its contract. The test on what is left decides as the definition does; what comes through the array is t.
 -- Assumes nothing.
-use Prim.Native.Nat.{_+_, _-_, _≤_}
-use mathlib.Core.Path.{_≡_, refl, ap, _∙_}
+use Prim.Native.Nat.{ℕ, _+_}
+use mathlib.Core.Path.{sym, ap, _∙_}
+use mathlib.Core.List.{List, _++_}
 use native.Mathlib.Omega.{arith}
-use native.Mathlib.Numerals.{add-one}
-use lib.ListN.{length, getD, length-set}
-use lib.Seq.{paste, paste-zero, paste-suc}
+use lib.ListN.{length, take, drop}
 use denote.Ref.{now}
-use Rattle.base.proofs.Lists.{pasted}
-use Rattle.base.proofs.Widths.{bytes-short, bytes-whole}
+use Rattle.base.proofs.Widths.{bytes-short, bytes-whole, through}
 use borrow.Author.Needs.{needs}
 use Rattle.base.proofs.field.write_bytes.Statement.{statement}
 use Rattle.base.proofs.field.write_bytes.Tie as tie
 
-abbrev Inv-loop : tie.InvT-loop
-Inv-loop s₀ place t left i₀ s i = (i ≤ length t) × (length s ≡ length s₀) × (s ≡ paste s₀ place t i)
-
-abbrev μ-loop : tie.MeasureT-loop
-μ-loop s₀ place t left i₀ s i = length t - i
-
-left-requires : tie.Need-left-requires Inv-loop μ-loop
+left-requires : tie.Need-left-requires
 left-requires c κs = search needs
 
-returns : tie.Need-returns Inv-loop μ-loop
+returns : tie.Need-returns
 returns c =
     let a = c .before .before .before .before .args in
     bytes-short (a .place) (now (a .t)) (now (a .s)) _ (c .before .left .ensures) (c .if1 .taken)
 
-loop-holds : tie.Need-loop-holds Inv-loop μ-loop
-loop-holds c =
-    let a = c .before .before .before .before .args in
-    (omega arith, refl, paste-zero (now (a .s)) (a .place) (now (a .t)))
+lay-requires : tie.Need-lay-requires
+lay-requires c κs = search needs
 
-shared-slice-read-s : tie.Need-shared-slice-read-s Inv-loop μ-loop
-shared-slice-read-s c = omega arith
+same-length : tie.Need-same-length
+same-length c = search needs
 
-add-s : tie.Need-add-s Inv-loop μ-loop
-add-s c = omega arith
-
-slice-write-s : tie.Need-slice-write-s Inv-loop μ-loop
-slice-write-s c = omega arith
-
-add-i : tie.Need-add-i Inv-loop μ-loop
-add-i c = omega arith
-
-loop-less : tie.Need-loop-less Inv-loop μ-loop
-loop-less c = omega arith
-
-loop-again : tie.Need-loop-again Inv-loop μ-loop
-loop-again c =
-    let a = c .before .before .before .before .before .before .before .args in
-    let l = c .before .before .loop in (
-      omega arith,
-      length-set (l .s) (a .place + l .i) (getD (now (a .t)) (l .i) 0) ∙ l .inv .1,
-      rw (add-one, l .inv .2) (paste-suc (now (a .s)) (a .place) (now (a .t)) (l .i) 0 (omega arith) (omega arith)),
-    )
-
-same-length : tie.Need-same-length Inv-loop μ-loop
-same-length c = c .before .loop .inv .1
-
-returns-2 : tie.Need-returns-2 Inv-loop μ-loop
+returns-2 : tie.Need-returns-2
 returns-2 c =
-    let a = c .before .before .before .before .before .before .args in
-    let l = c .before .loop in
-    let whole : l .i ≡ length (now (a .t)) = omega arith in
+    let a = c .before .before .before .before .before .before .before .before .before .args in
+    bytes-whole (a .place) (now (a .t)) (now (a .s)) _ (c .before .before .lay .ensures) (omega arith)
+
+slice-aggregate-lay : tie.Need-slice-aggregate-lay
+slice-aggregate-lay c = search needs
+
+lay-requires-2 : tie.Need-lay-requires-2
+lay-requires-2 c κs = search needs
+
+array-share-prefix-block : tie.Need-array-share-prefix-block
+array-share-prefix-block c = search needs
+
+slice-aggregate-lay-2 : tie.Need-slice-aggregate-lay-2
+slice-aggregate-lay-2 c =
+    let a = c .before .before .before .before .before .before .before .before .before .before .args in
+    sym (ap length (through (now (a .t)) _ (c .before .before .before .lay2 .ensures)))
+
+lay-requires-3 : tie.Need-lay-requires-3
+lay-requires-3 c κs =
+    let a = c .before .before .before .before .before .before .before .before .before .before .args in
+    let same = ap length (through (now (a .t)) _ (c .before .before .before .lay2 .ensures)) in
+    omega arith
+
+same-length-2 : tie.Need-same-length-2
+same-length-2 c = search needs
+
+returns-3 : tie.Need-returns-3
+returns-3 c =
+    let a = c .before .before .before .before .before .before .before .before .before .before .before .before .before .args in
+    let same = through (now (a .t)) _ (c .before .before .before .before .before .before .lay2 .ensures) in
     bytes-whole (a .place) (now (a .t)) (now (a .s)) _
-    (l .inv .2 ∙ ap (paste (now (a .s)) (a .place) (now (a .t))) whole ∙ pasted (now (a .s)) (a .place) (now (a .t))) (omega arith)
+    (c .before .before .lay3 .ensures ∙ ap (λ (u : List ℕ). take (a .place) (now (a .s)) ++ (u ++ drop (a .place + length u) (now (a .s)))) same) (omega arith)
 
 pub write-bytes-spec : {M : Type 1} → statement M
 write-bytes-spec =
     tie.close
     (tie.spec
-    Inv-loop
-    μ-loop
     left-requires
     returns
-    loop-holds
-    shared-slice-read-s
-    add-s
-    slice-write-s
-    add-i
-    loop-less
-    loop-again
+    lay-requires
     same-length
-    returns-2)
+    returns-2
+    slice-aggregate-lay
+    lay-requires-2
+    array-share-prefix-block
+    slice-aggregate-lay-2
+    lay-requires-3
+    same-length-2
+    returns-3)

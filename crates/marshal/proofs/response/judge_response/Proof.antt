@@ -1,6 +1,8 @@
 -- `marshal::response::judge_response` meets its contract: each return is the case of the definition to which its tests lead.
 -- Assumes nothing.
-use mathlib.Core.Path.{_∙_, ap}
+use mathlib.Core.Path.{refl, _∙_, ap}
+use mathlib.Core.Bool.{false}
+use lib.ListN.{length}
 use Prim.Native.Nat.{ℕ}
 use denote.Ref.{now}
 use Rattle.base.specs.Said.{refuses}
@@ -9,6 +11,7 @@ use Rattle.table.specs.Dispatch.{dispatch}
 use Rattle.table.specs.Table.{saidFound}
 use Rattle.marshal.specs.Handed.{handed}
 use Rattle.marshal.specs.Write.{counted, judged}
+use Rattle.marshal.proofs.Judgements.{entries-bound}
 use Rattle.marshal.proofs.Writers.{many-entries, no-command, success-judged, error-judged}
 use borrow.Author.Needs.{needs}
 use Rattle.marshal.proofs.response.judge_response.Statement.{statement}
@@ -35,15 +38,27 @@ enum-known-row c = search needs
 tag-for-requires : tie.Need-tag-for-requires
 tag-for-requires c κs = search needs
 
+entries-length-requires : tie.Need-entries-length-requires
+entries-length-requires c κs = search needs
+
 judge-requires : tie.Need-judge-requires
-judge-requires c κs = search needs
+judge-requires c κs =
+    let a = c .before .before .before .before .before .before .before .before .before .before .before .before .before .args in
+    let good = c .before .before .before .before .before .before .before .before .before .before .before .before .before .good .1 .1 .1 .0 in
+    let first = good .1 .1 .1 .0 in
+    let second = good .1 .1 .1 .1 .0 in
+    let third = good .1 .1 .1 .1 .1 .0 in
+    entries-bound false (length (now (a .lent))) (a .sessions) (first .1 .1 .1 .0 .1 .1 .1 .0 .1, first .1 .1 .1 .1 .1 .0 .1 .1 .1 .0 .1)
+    (second .1 .1 .1 .0 .1 .1 .1 .0 .1, second .1 .1 .1 .1 .1 .0 .1 .1 .1 .0 .1) (third .1 .1 .1 .0 .1 .1 .1 .0 .1, third .1 .1 .1 .1 .1 .0 .1 .1 .1 .0 .1)
+    (c .entries-length .ensures)
 
 returns-2 : tie.Need-returns-2
 returns-2 c =
-    let a = c .before .before .before .before .before .before .before .before .before .before .before .before .before .args in
+    let a = c .before .before .before .before .before .before .before .before .before .before .before .before .before .before .args in
     let h = handed (now (a .handles)) (a .sessions) (now (a .lent)) (now (a .parameters)) in
-    c .judge .ensures ∙ ap (λ (tag : ℕ). judged 0 tag (c .before .before .before .before .before .row .given .0 .0 .responses) h (a .room)) (c .before .tag-for .ensures)
-    ∙ success-judged dispatch (a .cc .0) (a .rc .0) h (a .room) (c .before .before .before .before .before .before .before .before .if1 .left) (learnt saidFound (c .before .before .before .before .before .row .given .1) (c .before .before .before .before .before .before .before .find .ensures)) (c .before .before .if2 .taken)
+    c .judge .ensures 0 h refl (c .before .entries-length .ensures) refl
+    ∙ ap (λ (tag : ℕ). judged 0 tag (c .before .before .before .before .before .before .row .given .0 .0 .responses) h (a .room)) (c .before .before .tag-for .ensures)
+    ∙ success-judged dispatch (a .cc .0) (a .rc .0) h (a .room) (c .before .before .before .before .before .before .before .before .before .if1 .left) (learnt saidFound (c .before .before .before .before .before .before .row .given .1) (c .before .before .before .before .before .before .before .before .find .ensures)) (c .before .before .before .if2 .taken)
 
 judge-error-requires : tie.Need-judge-error-requires
 judge-error-requires c κs = search needs
@@ -70,6 +85,7 @@ judge-response-spec =
     enum-known-e
     enum-known-row
     tag-for-requires
+    entries-length-requires
     judge-requires
     returns-2
     judge-error-requires
