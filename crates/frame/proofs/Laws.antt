@@ -70,23 +70,24 @@ module _ (cc : ℕ) where
       → heldAt (r .auth) s ≡ layoutEntries 0 (responseParts s r .entries)
   response-auth = over-one.response-auth dispatch cc
 
--- ---- what callers are answered: whatever arguments and result meet a function's contract, the claim holds of them
+-- ---- what callers are answered: whatever arguments, result and later state of what was lent meet a function's contract, the claim
+-- holds of them
 
-abbrev Promised : (n : ℕ) (ps : List (PK n)) (r : RK n) → Out n ps r → ((κs : Lfts n) → Dens κs ps → resT r κs .Denot → Type 0) → Type 0
+abbrev pub Promised : (n : ℕ) (ps : List (PK n)) (r : RK n) → Out n ps r → Out n ps r → Type 0
 Promised n ps r Post Claim =
     (κs : Lfts n) (a : Dens κs ps) (x : resT r κs .Denot) (v : Lasts (endedOf n ps r) κs a) →
     Post κs a x (atExit (endedOf n ps r) κs a v) →
-    Claim κs a x
+    Claim κs a x (atExit (endedOf n ps r) κs a v)
 
 -- `validate` is done exactly when the bytes are the layout of well-formed parts
 pub command-validate : Promised 1 command-validate-kinds.ps command-validate-kinds.r command-validate-reads.Post
-    (λ κs a x. AreBytes (now (a .0)) → (x ≡ outcome.Done) ↔ ((f : Frame) × CommandParts dispatch f × (layoutCommand f ≡ now (a .0))))
+    (λ κs a x later. AreBytes (now (a .0)) → (x ≡ outcome.Done) ↔ ((f : Frame) × CommandParts dispatch f × (layoutCommand f ≡ now (a .0))))
 command-validate κs a x v met p =
     let s : List ℕ = now (a .0) in
     done-exactly command-divides s p x (met ∙ done-valued (frameOf commandOf s) (readCommand dispatch commandCodes s))
 
 pub response-validate : Promised 1 response-validate-kinds.ps response-validate-kinds.r response-validate-reads.Post
-    (λ κs a x. AreBytes (now (a .1 .0))
+    (λ κs a x later. AreBytes (now (a .1 .0))
     → (x ≡ outcome.Done) ↔ ((f : Frame) × ResponseParts dispatch (a .0 .0) f × (layoutResponse f ≡ now (a .1 .0))))
 response-validate κs a x v met p =
     let s : List ℕ = now (a .1 .0) in
@@ -94,7 +95,7 @@ response-validate κs a x v met p =
 
 -- `parts` gives what tells these parts, and then the authorization area is the layout of the entries
 pub command-parts : Promised 1 command-parts-kinds.ps command-parts-kinds.r command-parts-reads.Post
-    (λ κs a x. AreBytes (now (a .0))
+    (λ κs a x later. AreBytes (now (a .0))
     → Tells command.Is commandParts layoutCommand (CommandParts dispatch) (now (a .0)) x
     × ((c : Command) → x ≡ command.Is c → heldAt (c .auth) (now (a .0)) ≡ layoutEntries 4 (commandParts (now (a .0)) c .entries)))
 command-parts κs a x v met p =
@@ -104,7 +105,7 @@ command-parts κs a x v met p =
     )
 
 pub response-parts : Promised 1 response-parts-kinds.ps response-parts-kinds.r response-parts-reads.Post
-    (λ κs a x. AreBytes (now (a .1 .0))
+    (λ κs a x later. AreBytes (now (a .1 .0))
     → Tells response.Is responseParts layoutResponse (ResponseParts dispatch (a .0 .0)) (now (a .1 .0)) x
     × ((r : Response) → x ≡ response.Is r → heldAt (r .auth) (now (a .1 .0)) ≡ layoutEntries 0 (responseParts (now (a .1 .0)) r .entries)))
 response-parts κs a x v met p =

@@ -1,21 +1,20 @@
--- The starred rows of document 01's worked frames, together: what the definitions answer to each at the port's table, in the numbers
--- that callers see.
+-- Document 01's worked frames, and what the definitions answer to a call at the port's table, in the numbers that callers see. The
+-- starred rows are proved together where the writers are known (marshal, proofs/Worked.antt).
 -- Assumes nothing.
 use mathlib.Core.Path.{_≡_, refl}
 use mathlib.Core.List.{List, [], _∷_, _++_}
 use Prim.Native.Nat.{ℕ}
 use Rattle.base.specs.Bytes.{number}
 use Rattle.base.specs.Said.{Said, gives, refuses, then}
-use Rattle.rc.specs.Code.{readIndex, readFmt1, readFmt0, readCode, baseOf, kindOf, indexOf}
-use Rattle.rc.specs.Known.{isKnown, knownCodes}
+use Rattle.rc.specs.Code.{readCode, baseOf, kindOf, indexOf}
 use Rattle.table.specs.Dispatch.{dispatch, commandCodes}
 use Rattle.table.specs.Tags.{tags}
 use Rattle.base.specs.declared.part.Span.{Span}
 use Rattle.frame.specs.Answer.{commandByValue, responseByValue, whole}
 use Rattle.frame.specs.Areas.{handleArea, sizedArea}
 use Rattle.frame.specs.Command.{commandHandles, commandAreas, judgeCommand, castCommand, readCommand}
-use Rattle.frame.specs.Header.{tagOf, sizeOf, codeOf, readCc, readRc, framePrefix, frameWhole, readFrameTag}
-use Rattle.frame.specs.Response.{judgeResponse, castResponse, errorAreas, successAreas, responseAreas, readResponse}
+use Rattle.frame.specs.Header.{tagOf, sizeOf, codeOf, readCc, framePrefix, frameWhole, readFrameTag}
+use Rattle.frame.specs.Response.{readResponse}
 use Rattle.frame.specs.Walk.{readTpm2b, readSigned, readEntry, walk}
 
 -- ---- the calls
@@ -68,50 +67,8 @@ abbrev pub C : ℕ → List ℕ
 C size =
     0x80 ∷ 0x02 ∷ 0 ∷ 0 ∷ 0 ∷ 0x17 ∷ 0 ∷ 0 ∷ 0 ∷ 0 ∷ 0 ∷ 0 ∷ 0 ∷ size ∷ 0 ∷ 0x02 ∷ 0xaa ∷ 0xbb ∷ 0 ∷ 0 ∷ 0x01 ∷ 0 ∷ 0 ∷ []
 
--- ---- the table
+-- ---- a fourth entry is refused before it is read: 01's row of B with three entries and a byte, which has no star
 
-pub record Row : Type 0 where
-  pub input : Asked
-  pub result : Said (List ℕ)
-
-abbrev pub row : Asked → Said (List ℕ) → Row
-row input result = record { input = input; result = result }
-
-abbrev pub passes : Said (List ℕ)
-passes = gives []
-
--- the twelve rows, in document 01's order, and one without a star: a fourth entry is refused before it is read
--- what a writer says of the parts of B cut has to wait for the writers
-abbrev pub rows : List Row
-rows =
-    row (validate-command []) (refuses (1 ∷ 0 ∷ 10 ∷ 0 ∷ []))
-    ∷ row (validate-command (A 0x0c)) passes
-    ∷ row (parts-of-command (A 0x0c)) (gives (10 ∷ 10 ∷ 10 ∷ 10 ∷ 10 ∷ 12 ∷ []))
-    ∷ row (validate-command (A 0x0b)) (refuses (2 ∷ 11 ∷ 1 ∷ []))
-    ∷ row (validate-command (A 0x0d)) (refuses (1 ∷ 12 ∷ 1 ∷ 0 ∷ []))
-    ∷ row (parts-of-command (B 0x1b 9 entry)) (gives (10 ∷ 14 ∷ 18 ∷ 27 ∷ 27 ∷ 27 ∷ []))
-    ∷ row (validate-command (B 0x12 0 [])) passes
-    ∷ row (cast-command (B 0x1a 8 cutEntry)) (gives (0 ∷ 26 ∷ []))
-    ∷ row (validate-command (B 0x1a 8 cutEntry)) (refuses (1 ∷ 25 ∷ 2 ∷ 1 ∷ []))
-    ∷ row (validate-response 0x15e failed) passes
-    ∷ row (parts-of-response 0x17b (C 0x04)) (gives (10 ∷ 10 ∷ 18 ∷ 23 ∷ 14 ∷ 18 ∷ []))
-    ∷ row (validate-response 0x17b (C 0x0a)) (refuses (1 ∷ 14 ∷ 10 ∷ 9 ∷ []))
-    ∷ row (read-code 0x1c4) (gives (0x84 ∷ 3 ∷ 1 ∷ []))
-    ∷ row (read-code 0x184) (gives (0x84 ∷ 4 ∷ 1 ∷ []))
-    ∷ row (read-code 0x984) (gives (0x84 ∷ 5 ∷ 1 ∷ []))
-    ∷ row (read-code 0xc4) (refuses (5 ∷ 0 ∷ 0xc4 ∷ []))
-    ∷ row (read-code 0x10c4) (refuses (5 ∷ 0 ∷ 0x10c4 ∷ []))
-    ∷ row (validate-command (B 0x2e 28 (entry ++ (entry ++ (entry ++ (0 ∷ [])))))) (refuses (6 ∷ 45 ∷ 3 ∷ 4 ∷ []))
-    ∷ []
-
-abbrev pub answers : List Row → List (Said (List ℕ))
-answers [] = []
-answers (r ∷ rs) = answer (r .input) ∷ answers rs
-
-abbrev pub results : List Row → List (Said (List ℕ))
-results [] = []
-results (r ∷ rs) = r .result ∷ results rs
-
-pub starred : answers rows ≡ results rows
-unfolding number dispatch tags tagOf sizeOf codeOf readCc readRc framePrefix frameWhole readFrameTag handleArea sizedArea commandHandles commandAreas judgeCommand castCommand readCommand judgeResponse castResponse errorAreas successAreas responseAreas readResponse readTpm2b readSigned readEntry walk readCode readFmt1 readFmt0 readIndex isKnown knownCodes
-starred = refl
+pub fourth-entry : answer (validate-command (B 0x2e 28 (entry ++ (entry ++ (entry ++ (0 ∷ [])))))) ≡ refuses (6 ∷ 45 ∷ 3 ∷ 4 ∷ [])
+unfolding number dispatch tags tagOf sizeOf codeOf readCc framePrefix frameWhole readFrameTag handleArea sizedArea commandHandles commandAreas judgeCommand castCommand readCommand readTpm2b readSigned readEntry walk
+fourth-entry = refl

@@ -4,13 +4,17 @@
 -- The laws themselves hold over any rows, and for commands over any list of known codes that has the rows' codes (CommandWriting,
 -- ResponseWriting, TooLarge).
 -- Assumes nothing.
-use mathlib.Core.Path.{_≡_, ap}
+use mathlib.Core.Path.{_≡_, _∙_, ap}
 use mathlib.Core.Bool.{true}
 use mathlib.Core.List.{List, [], _∷_, _++_}
 use mathlib.Core.Logic.{_↔_}
 use Prim.Native.Nat.{ℕ, _+_, _-_, _≤_, _<_}
+use borrow.Author.Tests.{eqb-true}
 use lib.Dec.{eqb}
 use lib.ListN.{length, take, drop}
+use denote.Ref.{now}
+use Rattle.base.specs.declared.answer.Count.{Count}
+use Rattle.base.specs.Answer.{saidCount}
 use Rattle.base.specs.Bytes.{AreBytes}
 use Rattle.base.specs.Members.{isIn}
 use Rattle.base.specs.Said.{Said, gives, refuses}
@@ -26,8 +30,10 @@ use Rattle.frame.specs.Header.{sessions}
 use Rattle.frame.specs.Parts.{commandParts, responseParts}
 use Rattle.frame.specs.Response.{readResponse}
 use Rattle.frame.proofs.FrameLaws.{two-tags}
-use Rattle.marshal.specs.Handed.{Handed, commandFrame}
+use Rattle.frame.proofs.Laws.{Promised}
+use Rattle.marshal.specs.Handed.{Handed, handed, commandFrame}
 use Rattle.marshal.specs.Write.{counted, roomAfter, writeCommand, writeResponse}
+use Rattle.marshal.proofs.Calls.{Writes, Written, Refused, writes, wrote, refused, refused-exactly}
 use Rattle.marshal.proofs.CommandWriting as command
 use Rattle.marshal.proofs.CommandWriting.{commandHanded}
 use Rattle.marshal.proofs.Parts.{OfTypes}
@@ -36,6 +42,10 @@ use Rattle.marshal.proofs.ResponseWriting.{responseFrame, responseHande
 use Rattle.marshal.proofs.TooLarge as large
 use Rattle.marshal.proofs.TooLarge.{CommandTooLarge, ResponseTooLarge}
 use Rattle.marshal.proofs.Writers.{room-is, room-start}
+use Rattle.marshal.proofs.command.write.Kinds as command-write-kinds
+use Rattle.marshal.proofs.command.write.Reads as command-write-reads
+use Rattle.marshal.proofs.response.write.Kinds as response-write-kinds
+use Rattle.marshal.proofs.response.write.Reads as response-write-reads
 
 has-code : (code : ℕ) (r : Row) → rowFor dispatch code ≡ gives r → isIn code commandCodes ≡ true
 has-code code r found = row-known code found
@@ -100,3 +110,90 @@ response-too-large = large.response-too-large dispatch
 
 pub refused-leaves : (room : List ℕ) {said : Said (List ℕ)} {why : List ℕ} → said ≡ refuses why → roomAfter room said ≡ room
 refused-leaves room e = ap (roomAfter room) e
+
+-- ---- what callers are answered, by the contracts of `command::write` and `response::write`
+
+-- the sessions tag with no entry
+abbrev Bare : ℕ → ℕ → Type 0
+Bare tag count = (tag ≡ sessions) × (count ≡ 0)
+
+module _ (tag code : ℕ) (h : Handed) (room : List ℕ) (x : Count) (later : List ℕ) where
+  abbrev CommandFrom : List ℕ → Command → Type 0
+  CommandFrom s c = (tag ≡ c .tag .0) × (code ≡ c .cc .0) × (h ≡ commandHanded s c)
+
+  -- a bare command is refused, and 7 is the answer exactly where the total is too large
+  abbrev pub CommandWrites : Type 0
+  CommandWrites =
+      Writes (λ s. commandByValue s (readCommand dispatch commandCodes s)) commandParts (λ c. Bare (c .tag .0) (c .entries .count))
+      (commandFrame tag code h) (OfTypes h × (code < 4294967296)) CommandFrom room x later
+      × ((s : List ℕ) (c : Command) → CommandFrom s c → Bare (c .tag .0) (c .entries .count) → Refused room x later (3 ∷ 0 ∷ 0x8002 ∷ []))
+      × ((n : ℕ) → (saidCount x ≡ refuses (7 ∷ 0 ∷ n ∷ [])) ↔ CommandTooLarge dispatch tag code h n)
+
+  abbrev commandSaid : Said (List ℕ)
+  commandSaid = writeCommand dispatch tag code h (length room)
+
+  command-writes : saidCount x ≡ counted commandSaid → later ≡ roomAfter room commandSaid → CommandWrites
+  command-writes answer bytes =
+      let back : (s : List ℕ) (c : Command) → CommandFrom s c
+      → commandSaid ≡ writeCommand dispatch (c .tag .0) (c .cc .0) (commandHanded s c) (length room) =
+      λ s c from i. writeCommand dispatch (from .0 i) (from .1 i) (from .2 i) (length room) in (
+        writes room x later commandSaid answer bytes _ commandParts _ _ _ CommandFrom
+            (λ t given typed. command.command-reads dispatch commandCodes has-code two-tags tag code h (length room) given (typed .0) (typed .1))
+            (λ s are c read from enough some. back s c from
+            ∙ command.command-again dispatch commandCodes has-code two-tags s c read are (length room) enough
+            (λ under none. some (eqb-true (c .tag .0) sessions under, none))),
+        (λ s c from bare. refused room x later commandSaid answer bytes
+            (back s c from ∙ command.command-empty dispatch s c (length room) (bare .0) (bare .1))),
+        (λ n.
+            let told = refused-exactly room x later commandSaid answer bytes in
+            let large = command-too-large tag code h (length room) n in
+            ((λ e. large .0 (told .0 e)), (λ e. told .1 (large .1 e)))),
+      )
+
+pub command-write : Promised 4 command-write-kinds.ps command-write-kinds.r command-write-reads.Post
+    (λ κs a x later.
+    let h : Handed = handed (now (a .1 .1 .0)) (a .1 .1 .1 .0) (now (a .1 .1 .1 .1 .0)) (now (a .1 .1 .1 .1 .1 .0)) in
+    CommandWrites (a .0 .0) (a .1 .0 .0) h (now (a .1 .1 .1 .1 .1 .1 .0)) x (now (later .1 .1 .1 .1 .1 .1 .0)))
+command-write κs a x v met = command-writes (a .0 .0) (a .1 .0 .0) _ _ x _ (met .0) (met .1)
+
+module _ (cc code : ℕ) (h : Handed) (room : List ℕ) (x : Count) (later : List ℕ) where
+  abbrev ResponseFrom : List ℕ → Response → Type 0
+  ResponseFrom s r = (code ≡ r .rc .0) × (h ≡ responseHanded s r)
+
+  -- a bare response comes out four bytes shorter, and 7 is the answer exactly where the total is too large
+  abbrev pub ResponseWrites : Type 0
+  ResponseWrites =
+      Writes (λ s. responseByValue s (readResponse dispatch cc s)) responseParts (λ r. Bare (r .tag .0) (r .entries .count))
+      (responseFrame code h) (OfTypes h × (code < 4294967296)) ResponseFrom room x later
+      × ((s : List ℕ) → AreBytes s → (r : Response) → responseByValue s (readResponse dispatch cc s) ≡ gives r → ResponseFrom s r
+      → Bare (r .tag .0) (r .entries .count) → length s - 4 ≤ length room
+      → Written room x later (shorter s r) × (length (shorter s r) + 4 ≡ length s))
+      × ((n : ℕ) → (saidCount x ≡ refuses (7 ∷ 0 ∷ n ∷ [])) ↔ ResponseTooLarge dispatch cc code h n)
+
+  abbrev responseSaid : Said (List ℕ)
+  responseSaid = writeResponse dispatch cc code h (length room)
+
+  response-writes : saidCount x ≡ counted responseSaid → later ≡ roomAfter room responseSaid → ResponseWrites
+  response-writes answer bytes =
+      let back : (s : List ℕ) (r : Response) → ResponseFrom s r
+      → responseSaid ≡ writeResponse dispatch cc (r .rc .0) (responseHanded s r) (length room) =
+      λ s r from i. writeResponse dispatch cc (from .0 i) (from .1 i) (length room) in (
+        writes room x later responseSaid answer bytes _ responseParts _ _ _ ResponseFrom
+            (λ t given typed. response.response-reads dispatch cc code h (length room) given (typed .0) (typed .1))
+            (λ s are r read from enough some. back s r from
+            ∙ response.response-again dispatch cc s are r read (length room) enough
+            (λ under none. some (eqb-true (r .tag .0) sessions under, none))),
+        (λ s are r read from bare enough.
+            let short = response.response-shorter dispatch cc s are r read (length room) enough (bare .0) (bare .1) in
+            (wrote room x later responseSaid answer bytes (back s r from ∙ short .0), short .1)),
+        (λ n.
+            let told = refused-exactly room x later responseSaid answer bytes in
+            let large = response-too-large cc code h (length room) n in
+            ((λ e. large .0 (told .0 e)), (λ e. told .1 (large .1 e)))),
+      )
+
+pub response-write : Promised 4 response-write-kinds.ps response-write-kinds.r response-write-reads.Post
+    (λ κs a x later.
+    let h : Handed = handed (now (a .1 .1 .0)) (a .1 .1 .1 .0) (now (a .1 .1 .1 .1 .0)) (now (a .1 .1 .1 .1 .1 .0)) in
+    ResponseWrites (a .1 .0 .0) (a .0 .0) h (now (a .1 .1 .1 .1 .1 .1 .0)) x (now (later .1 .1 .1 .1 .1 .1 .0)))
+response-write κs a x v met = response-writes (a .1 .0 .0) (a .0 .0) _ _ x _ (met .0) (met .1)

@@ -1,3 +1,4 @@
+pub mod Calls
 pub mod CommandWriting
 pub mod Frames
 pub mod Judgements

@@ -1,44 +1,112 @@
--- What document 01's worked frames say of the writers, at the port's table: B cut to authorization size 0 is refused, and B, C and
--- the error response come out of their parts.
+-- The starred rows of document 01's worked frames, together: what the definitions answer to each at the port's table, in the numbers
+-- that callers see. The frames and the calls that read are frame's; here the writers come to them.
 -- Assumes nothing.
 use mathlib.Core.Path.{_≡_, refl}
 use mathlib.Core.List.{List, [], _∷_}
 use Prim.Native.Nat.{ℕ}
-use Rattle.base.specs.Bytes.{bytes}
-use Rattle.base.specs.Said.{gives, refuses}
-use Rattle.rc.specs.Code.{readCode, readFmt0}
+use Rattle.base.specs.Bytes.{bytes, number}
+use Rattle.base.specs.Said.{Said, gives, refuses, then}
+use Rattle.rc.specs.Code.{readIndex, readFmt1, readFmt0, readCode}
 use Rattle.rc.specs.Known.{isKnown, knownCodes}
-use Rattle.table.specs.Dispatch.{dispatch}
-use Rattle.frame.specs.declared.session.Session.{Session}
+use Rattle.table.specs.Dispatch.{dispatch, commandCodes}
+use Rattle.table.specs.Tags.{tags}
+use Rattle.frame.specs.Answer.{commandByValue, responseByValue}
+use Rattle.frame.specs.Areas.{handleArea, sizedArea}
+use Rattle.frame.specs.Command.{commandHandles, commandAreas, judgeCommand, castCommand, readCommand}
+use Rattle.frame.specs.Header.{tagOf, sizeOf, codeOf, readCc, readRc, framePrefix, frameWhole, readFrameTag}
 use Rattle.frame.specs.Layout.{layoutCommand, layoutResponse}
-use Rattle.frame.specs.Walk.{byValue}
-use Rattle.marshal.specs.Handed.{handed}
-use Rattle.marshal.specs.Write.{sessionsThere, judged, writeCommand, writeSuccess, writeError, writeResponse}
-
--- a session with an empty nonce and an empty HMAC
-abbrev session : ℕ → ℕ → Session
-session handle attributes = record {
-  handle = handle;
-  nonce = record { at = 0; size = 0 };
-  attributes = attributes;
-  hmac = record { at = 0; size = 0 };
+use Rattle.frame.specs.Response.{judgeResponse, castResponse, errorAreas, successAreas, responseAreas, readResponse}
+use Rattle.frame.specs.Walk.{readTpm2b, readSigned, readEntry, walk, byValue}
+use Rattle.frame.proofs.Worked as frame
+use Rattle.frame.proofs.Worked.{
+  Asked,
+  cast-command,
+  validate-command,
+  parts-of-command,
+  validate-response,
+  parts-of-response,
+  read-code,
+  A,
+  B,
+  C,
+  failed,
+  entry,
+  cutEntry,
 }
+use Rattle.marshal.specs.Handed.{Handed, handed}
+use Rattle.marshal.specs.Write.{sessionsThere, judged, writeCommand, writeSuccess, writeError, writeResponse}
+use Rattle.marshal.proofs.CommandWriting.{commandHanded}
+use Rattle.marshal.proofs.ResponseWriting.{responseHanded}
 
-abbrev handle : List ℕ
-handle = 0x80 ∷ 0 ∷ 0 ∷ 0 ∷ []
+-- ---- the calls
 
-writers : (writeCommand dispatch 0x8002 0x15e (handed handle (byValue []) [] []) 18 ≡ refuses (3 ∷ 0 ∷ 32770 ∷ []))
-    × (writeCommand dispatch 0x8002 0x15e (handed handle (byValue (session 0x40000009 0 ∷ [])) [] []) 27
-    ≡ gives (
-    0x80 ∷ 0x02 ∷ 0 ∷ 0 ∷ 0 ∷ 0x1b ∷ 0 ∷ 0 ∷ 0x01 ∷ 0x5e ∷ 0x80 ∷ 0 ∷ 0 ∷ 0 ∷ 0 ∷ 0 ∷ 0 ∷ 0x09 ∷
-    0x40 ∷ 0 ∷ 0 ∷ 0x09 ∷ 0 ∷ 0 ∷ 0 ∷ 0 ∷ 0 ∷ []
-    ))
-    × (writeResponse dispatch 0x17b 0 (handed [] (byValue (session 0 1 ∷ [])) [] (0 ∷ 0x02 ∷ 0xaa ∷ 0xbb ∷ [])) 23
-    ≡ gives (
-    0x80 ∷ 0x02 ∷ 0 ∷ 0 ∷ 0 ∷ 0x17 ∷ 0 ∷ 0 ∷ 0 ∷ 0 ∷ 0 ∷ 0 ∷ 0 ∷ 0x04 ∷ 0 ∷ 0x02 ∷ 0xaa ∷ 0xbb ∷
-    0 ∷ 0 ∷ 0x01 ∷ 0 ∷ 0 ∷ []
-    ))
-    × (writeResponse dispatch 0x15e 0x101 (handed handle (byValue []) [] handle) 10
-    ≡ gives (0x80 ∷ 0x01 ∷ 0 ∷ 0 ∷ 0 ∷ 0x0a ∷ 0 ∷ 0 ∷ 0x01 ∷ 0x01 ∷ []))
-unfolding bytes readCode readFmt0 isKnown knownCodes dispatch layoutCommand layoutResponse sessionsThere judged writeCommand writeSuccess writeError writeResponse
-writers = (refl, refl, refl, refl)
+-- a call that reads; a frame read, and its parts handed to the writer with so much room; a response of some code written from what is
+-- handed over
+pub data Call : Type 0 where
+  reads : Asked → Call
+  again-command : List ℕ → ℕ → Call
+  again-response : ℕ → List ℕ → ℕ → Call
+  write-response : ℕ → ℕ → Handed → ℕ → Call
+
+-- what the call answers; a writer by the bytes that it writes
+abbrev pub answer : Call → Said (List ℕ)
+answer (reads asked) = frame.answer asked
+answer (again-command s room) =
+    then (commandByValue s (readCommand dispatch commandCodes s)) λ c.
+    writeCommand dispatch (c .tag .0) (c .cc .0) (commandHanded s c) room
+answer (again-response cc s room) =
+    then (responseByValue s (readResponse dispatch cc s)) λ r.
+    writeResponse dispatch cc (r .rc .0) (responseHanded s r) room
+answer (write-response cc code h room) = writeResponse dispatch cc code h room
+
+-- ---- the table
+
+pub record Row : Type 0 where
+  pub input : Call
+  pub result : Said (List ℕ)
+
+abbrev pub row : Call → Said (List ℕ) → Row
+row input result = record { input = input; result = result }
+
+abbrev pub passes : Said (List ℕ)
+passes = gives []
+
+-- the twelve rows, in document 01's order; and beside them that B, C and the error response come out of their parts, and that an
+-- error ignores the others
+abbrev pub rows : List Row
+rows =
+    row (reads (validate-command [])) (refuses (1 ∷ 0 ∷ 10 ∷ 0 ∷ []))
+    ∷ row (reads (validate-command (A 0x0c))) passes
+    ∷ row (reads (parts-of-command (A 0x0c))) (gives (10 ∷ 10 ∷ 10 ∷ 10 ∷ 10 ∷ 12 ∷ []))
+    ∷ row (reads (validate-command (A 0x0b))) (refuses (2 ∷ 11 ∷ 1 ∷ []))
+    ∷ row (reads (validate-command (A 0x0d))) (refuses (1 ∷ 12 ∷ 1 ∷ 0 ∷ []))
+    ∷ row (reads (parts-of-command (B 0x1b 9 entry))) (gives (10 ∷ 14 ∷ 18 ∷ 27 ∷ 27 ∷ 27 ∷ []))
+    ∷ row (reads (validate-command (B 0x12 0 []))) passes
+    ∷ row (again-command (B 0x12 0 []) 18) (refuses (3 ∷ 0 ∷ 32770 ∷ []))
+    ∷ row (reads (cast-command (B 0x1a 8 cutEntry))) (gives (0 ∷ 26 ∷ []))
+    ∷ row (reads (validate-command (B 0x1a 8 cutEntry))) (refuses (1 ∷ 25 ∷ 2 ∷ 1 ∷ []))
+    ∷ row (reads (validate-response 0x15e failed)) passes
+    ∷ row (reads (parts-of-response 0x17b (C 0x04))) (gives (10 ∷ 10 ∷ 18 ∷ 23 ∷ 14 ∷ 18 ∷ []))
+    ∷ row (reads (validate-response 0x17b (C 0x0a))) (refuses (1 ∷ 14 ∷ 10 ∷ 9 ∷ []))
+    ∷ row (reads (read-code 0x1c4)) (gives (0x84 ∷ 3 ∷ 1 ∷ []))
+    ∷ row (reads (read-code 0x184)) (gives (0x84 ∷ 4 ∷ 1 ∷ []))
+    ∷ row (reads (read-code 0x984)) (gives (0x84 ∷ 5 ∷ 1 ∷ []))
+    ∷ row (reads (read-code 0xc4)) (refuses (5 ∷ 0 ∷ 0xc4 ∷ []))
+    ∷ row (reads (read-code 0x10c4)) (refuses (5 ∷ 0 ∷ 0x10c4 ∷ []))
+    ∷ row (again-command (B 0x1b 9 entry) 27) (gives (B 0x1b 9 entry))
+    ∷ row (again-response 0x17b (C 0x04) 23) (gives (C 0x04))
+    ∷ row (again-response 0x15e failed 10) (gives failed)
+    ∷ row (write-response 0x15e 0x101 (handed (0x80 ∷ 0 ∷ 0 ∷ 0 ∷ []) (byValue []) [] (0xaa ∷ [])) 10) (gives failed)
+    ∷ []
+
+abbrev pub answers : List Row → List (Said (List ℕ))
+answers [] = []
+answers (r ∷ rs) = answer (r .input) ∷ answers rs
+
+abbrev pub results : List Row → List (Said (List ℕ))
+results [] = []
+results (r ∷ rs) = r .result ∷ results rs
+
+pub starred : answers rows ≡ results rows
+unfolding bytes number dispatch tags tagOf sizeOf codeOf readCc readRc framePrefix frameWhole readFrameTag handleArea sizedArea commandHandles commandAreas judgeCommand castCommand readCommand judgeResponse castResponse errorAreas successAreas responseAreas readResponse readTpm2b readSigned readEntry walk readCode readFmt1 readFmt0 readIndex isKnown knownCodes layoutCommand layoutResponse sessionsThere judged writeCommand writeSuccess writeError writeResponse
+starred = refl
