@@ -25,6 +25,8 @@ use Rattle.frame.specs.declared.response.ResponseRead.the-variants as re
 use Rattle.frame.specs.Answer.{saidCommand, saidResponse, whole}
 use Rattle.frame.specs.Command.{authRange, castCommand, castCommandPrefix, handlesRange, parametersRange}
 use Rattle.frame.specs.Response.{bodyRange, castResponse, castResponsePrefix}
+use Rattle.frame.proofs.session.Entries.new.Kinds as entries-new-kinds
+use Rattle.frame.proofs.session.Entries.new.Reads as entries-new-reads
 use Rattle.frame.proofs.header.tag.Kinds as frame-tag-kinds
 use Rattle.frame.proofs.header.tag.Reads as frame-tag-reads
 use Rattle.frame.proofs.header.size.Kinds as frame-size-kinds
@@ -123,6 +125,9 @@ pub saidResponse-injective : (a b : ResponseRead) → saidResponse a ≡ saidRes
 saidResponse-injective = injective-by saidResponse (unsaid response.Is response.Refused) told-response
 
 -- ---- the header
+
+entries-new : Single 0 entries-new-kinds.ps entries-new-kinds.r entries-new-reads.Post
+entries-new κs a x y v w p q = (p ∙ sym q, refl)
 
 frame-tag : Single 1 frame-tag-kinds.ps frame-tag-kinds.r frame-tag-reads.Post
 frame-tag κs a x y v w p q = (saidTag-injective x y (p ∙ sym q), refl)
