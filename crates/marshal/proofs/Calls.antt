@@ -4,7 +4,7 @@
 use mathlib.Core.Path.{_≡_, sym, _∙_, ap}
 use mathlib.Core.List.{List, _++_}
 use mathlib.Core.Logic.{_↔_}
-use Prim.Native.Nat.{ℕ, _≤_}
+use Prim.Native.Nat.{ℕ, _≤_, _<_}
 use lib.ListN.{length, take, drop}
 use lib.Seq.{drop-at}
 use Rattle.base.specs.declared.answer.Count.{Count}
@@ -16,7 +16,10 @@ use Rattle.base.specs.Said.{Said, gives, refuses}
 use Rattle.base.proofs.Answers.{saidCount-injective}
 use Rattle.base.proofs.Checks.{gives-injective, refuses-injective, gives≢refuses}
 use Rattle.frame.specs.Layout.{Frame}
+use Rattle.marshal.specs.Handed.{Handed}
 use Rattle.marshal.specs.Write.{counted, roomAfter}
+use Rattle.marshal.proofs.Parts.{OfTypes}
+use Rattle.marshal.proofs.Taking.{Taken}
 use Rattle.marshal.proofs.Writers.{room-is, room-start, room-refused}
 
 -- the answer is the length of t, t is at the start of the room, and what is behind it stays
@@ -27,12 +30,15 @@ Written room x later t = (x ≡ count.Is (length t)) × (later ≡ t ++ drop (le
 abbrev pub Refused : List ℕ → Count → List ℕ → List ℕ → Type 0
 Refused room x later why = (saidCount x ≡ refuses why) × (later ≡ room)
 
--- A call that was asked for a frame; Typed says that what was handed over is of its types, `From s d` that it is the parts that the
+-- A call that was handed h, and so asked for a frame of some code. `From s d` says that what was handed over are the parts that the
 -- reading d tells of s, and Bare that they are of a frame that comes out otherwise.
-pub record Writes {D : Type 0} (read : List ℕ → Said D) (parts : List ℕ → D → Frame) (Bare : D → Type 0) (asked : Frame) (Typed : Type 0)
-    (From : List ℕ → D → Type 0) (room : List ℕ) (x : Count) (later : List ℕ) : Type 0 where
+pub record Writes {D : Type 0} (read : List ℕ → Said D) (parts : List ℕ → D → Frame) (layout : Frame → List ℕ) (Formed : Frame → Type 0)
+    (From : List ℕ → D → Type 0) (Bare : D → Type 0) (h : Handed) (code : ℕ) (asked : Frame) (room : List ℕ) (x : Count) (later : List ℕ) : Type 0 where
+  -- an answer tells that the frame can be written, and where it can be it is
+  pub taken : (n : ℕ) → x ≡ count.Is n → OfTypes h → code < 4294967296 → Taken Formed layout asked h (length room)
+  pub written : Taken Formed layout asked h (length room) → Written room x later (layout asked)
   -- what was written passes, its parts are those asked for, and the bytes behind it stay
-  pub reads : (n : ℕ) → x ≡ count.Is n → Typed
+  pub reads : (n : ℕ) → x ≡ count.Is n → OfTypes h → code < 4294967296
       → (d : D) × (read (take n later) ≡ gives d) × (parts (take n later) d ≡ asked) × (drop n later ≡ drop n room)
   -- the parts of a passing frame, with enough room, give its bytes again
   pub again : (s : List ℕ) → AreBytes s → (d : D) → read s ≡ gives d → From s d → length s ≤ length room → (Bare d → ⊥) → Written room x later s
@@ -58,21 +64,27 @@ module _ (room : List ℕ) (x : Count) (later : List ℕ) (said : Said (List ℕ
   pub refused-exactly : {why : List ℕ} → (saidCount x ≡ refuses why) ↔ (said ≡ refuses why)
   refused-exactly = ((λ e. counted-refuses said (sym answer ∙ e)), (λ e. refused e .0))
 
-  module _ {D : Type 0} (read : List ℕ → Said D) (parts : List ℕ → D → Frame) (Bare : D → Type 0) (asked : Frame) (Typed : Type 0)
-      (From : List ℕ → D → Type 0) where
-    pub writes : ((t : List ℕ) → said ≡ gives t → Typed → (d : D) × (read t ≡ gives d) × (parts t d ≡ asked))
+  module _ {D : Type 0} (read : List ℕ → Said D) (parts : List ℕ → D → Frame) (layout : Frame → List ℕ) (Formed : Frame → Type 0)
+      (From : List ℕ → D → Type 0) (Bare : D → Type 0) (h : Handed) (code : ℕ) (asked : Frame) where
+    pub writes : ((t : List ℕ) → said ≡ gives t → OfTypes h → code < 4294967296 → Taken Formed layout asked h (length room))
+        → (Taken Formed layout asked h (length room) → said ≡ gives (layout asked))
+        → ((t : List ℕ) → said ≡ gives t → OfTypes h → code < 4294967296 → (d : D) × (read t ≡ gives d) × (parts t d ≡ asked))
         → ((s : List ℕ) → AreBytes s → (d : D) → read s ≡ gives d → From s d → length s ≤ length room → (Bare d → ⊥) → said ≡ gives s)
-        → Writes read parts Bare asked Typed From room x later
-    writes passes same = record {
-      reads = λ n is typed.
-          let told : counted said ≡ gives n = sym answer ∙ ap saidCount is in
-          let start = room-start room said told in
-          let first : take n later ≡ start .0 = ap (take n) bytes ∙ start .2 in
-          let long : length (start .0) ≡ n = gives-injective (sym (ap counted (start .1)) ∙ told) in
-          let d = passes (start .0) (start .1) typed in
-          let rest : drop n later ≡ drop n room =
-          ap (drop n) (bytes ∙ room-is room (start .1) .1) ∙ drop-at (start .0) _ n long ∙ ap (λ (k : ℕ). drop k room) long in
-          (d .0, ap read first ∙ d .1, ap (λ (t : List ℕ). parts t (d .0)) first ∙ d .2, rest);
-      again = λ s are d e from enough some. wrote (same s are d e from enough some);
-      leaves = λ why is. bytes ∙ sym (room-refused room said (sym (ap saidCount is) ∙ answer));
-    }
+        → Writes read parts layout Formed From Bare h code asked room x later
+    writes takes lays passes same =
+        let start : (n : ℕ) → x ≡ count.Is n → (t : List ℕ) × (said ≡ gives t) × (take n (roomAfter room said) ≡ t) =
+        λ n is. room-start room said (sym answer ∙ ap saidCount is) in record {
+          taken = λ n is types fits. takes (start n is .0) (start n is .1) types fits;
+          written = λ t. wrote (lays t);
+          reads = λ n is types fits.
+              let t : List ℕ = start n is .0 in
+              let gave : said ≡ gives t = start n is .1 in
+              let first : take n later ≡ t = ap (take n) bytes ∙ start n is .2 in
+              let long : length t ≡ n = gives-injective (sym (ap counted gave) ∙ sym answer ∙ ap saidCount is) in
+              let d = passes t gave types fits in
+              let rest : drop n later ≡ drop n room =
+              ap (drop n) (bytes ∙ room-is room gave .1) ∙ drop-at t _ n long ∙ ap (λ (k : ℕ). drop k room) long in
+              (d .0, ap read first ∙ d .1, ap (λ (u : List ℕ). parts u (d .0)) first ∙ d .2, rest);
+          again = λ s are d e from enough some. wrote (same s are d e from enough some);
+          leaves = λ why is. bytes ∙ sym (room-refused room said (sym (ap saidCount is) ∙ answer));
+        }

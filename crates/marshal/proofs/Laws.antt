@@ -1,8 +1,9 @@
 -- The last sentence of demand 3 at the port's own table: what a writer takes is a passing frame, and reading it gives the parts handed
 -- over; the parts read from a passing frame, written into enough room, give the same bytes, but under the sessions tag with no entry;
--- a writer refuses with 7 exactly where document 01 says; and a refused call leaves the room as it was.
+-- a writer refuses with 7 exactly where document 01 says; and a refused call leaves the room as it was. First of the definitions, then
+-- of what callers are answered, with which frames are taken.
 -- The laws themselves hold over any rows, and for commands over any list of known codes that has the rows' codes (CommandWriting,
--- ResponseWriting, TooLarge).
+-- ResponseWriting, Taking, TooLarge).
 -- Assumes nothing.
 use mathlib.Core.Path.{_≡_, _∙_, ap}
 use mathlib.Core.Bool.{true}
@@ -27,6 +28,7 @@ use Rattle.frame.specs.declared.response.Response.{Response}
 use Rattle.frame.specs.Answer.{commandByValue, responseByValue}
 use Rattle.frame.specs.Command.{readCommand}
 use Rattle.frame.specs.Header.{sessions}
+use Rattle.frame.specs.Layout.{ResponseParts, layoutCommand, layoutResponse}
 use Rattle.frame.specs.Parts.{commandParts, responseParts}
 use Rattle.frame.specs.Response.{readResponse}
 use Rattle.frame.proofs.FrameLaws.{two-tags}
@@ -39,6 +41,7 @@ use Rattle.marshal.proofs.CommandWriting.{commandHanded}
 use Rattle.marshal.proofs.Parts.{OfTypes}
 use Rattle.marshal.proofs.ResponseWriting as response
 use Rattle.marshal.proofs.ResponseWriting.{responseFrame, responseHanded, shorter}
+use Rattle.marshal.proofs.Taking.{CommandFormed, command-taken, taken-command, response-taken, taken-response}
 use Rattle.marshal.proofs.TooLarge as large
 use Rattle.marshal.proofs.TooLarge.{CommandTooLarge, ResponseTooLarge}
 use Rattle.marshal.proofs.Writers.{room-is, room-start}
@@ -124,8 +127,8 @@ module _ (tag code : ℕ) (h : Handed) (room : List ℕ) (x : Count) (later : Li
   -- a bare command is refused, and 7 is the answer exactly where the total is too large
   abbrev pub CommandWrites : Type 0
   CommandWrites =
-      Writes (λ s. commandByValue s (readCommand dispatch commandCodes s)) commandParts (λ c. Bare (c .tag .0) (c .entries .count))
-      (commandFrame tag code h) (OfTypes h × (code < 4294967296)) CommandFrom room x later
+      Writes (λ s. commandByValue s (readCommand dispatch commandCodes s)) commandParts layoutCommand (CommandFormed dispatch)
+      CommandFrom (λ c. Bare (c .tag .0) (c .entries .count)) h code (commandFrame tag code h) room x later
       × ((s : List ℕ) (c : Command) → CommandFrom s c → Bare (c .tag .0) (c .entries .count) → Refused room x later (3 ∷ 0 ∷ 0x8002 ∷ []))
       × ((n : ℕ) → (saidCount x ≡ refuses (7 ∷ 0 ∷ n ∷ [])) ↔ CommandTooLarge dispatch tag code h n)
 
@@ -137,8 +140,10 @@ module _ (tag code : ℕ) (h : Handed) (room : List ℕ) (x : Count) (later : Li
       let back : (s : List ℕ) (c : Command) → CommandFrom s c
       → commandSaid ≡ writeCommand dispatch (c .tag .0) (c .cc .0) (commandHanded s c) (length room) =
       λ s c from i. writeCommand dispatch (from .0 i) (from .1 i) (from .2 i) (length room) in (
-        writes room x later commandSaid answer bytes _ commandParts _ _ _ CommandFrom
-            (λ t given typed. command.command-reads dispatch commandCodes has-code two-tags tag code h (length room) given (typed .0) (typed .1))
+        writes room x later commandSaid answer bytes _ commandParts layoutCommand (CommandFormed dispatch) CommandFrom _ h code _
+            (λ t given types fits. command-taken dispatch tag code h (length room) given types fits)
+            (taken-command dispatch tag code h (length room))
+            (λ t given types fits. command.command-reads dispatch commandCodes has-code two-tags tag code h (length room) given types fits)
             (λ s are c read from enough some. back s c from
             ∙ command.command-again dispatch commandCodes has-code two-tags s c read are (length room) enough
             (λ under none. some (eqb-true (c .tag .0) sessions under, none))),
@@ -163,8 +168,8 @@ module _ (cc code : ℕ) (h : Handed) (room : List ℕ) (x : Count) (later : Lis
   -- a bare response comes out four bytes shorter, and 7 is the answer exactly where the total is too large
   abbrev pub ResponseWrites : Type 0
   ResponseWrites =
-      Writes (λ s. responseByValue s (readResponse dispatch cc s)) responseParts (λ r. Bare (r .tag .0) (r .entries .count))
-      (responseFrame code h) (OfTypes h × (code < 4294967296)) ResponseFrom room x later
+      Writes (λ s. responseByValue s (readResponse dispatch cc s)) responseParts layoutResponse (ResponseParts dispatch cc)
+      ResponseFrom (λ r. Bare (r .tag .0) (r .entries .count)) h code (responseFrame code h) room x later
       × ((s : List ℕ) → AreBytes s → (r : Response) → responseByValue s (readResponse dispatch cc s) ≡ gives r → ResponseFrom s r
       → Bare (r .tag .0) (r .entries .count) → length s - 4 ≤ length room
       → Written room x later (shorter s r) × (length (shorter s r) + 4 ≡ length s))
@@ -178,8 +183,10 @@ module _ (cc code : ℕ) (h : Handed) (room : List ℕ) (x : Count) (later : Lis
       let back : (s : List ℕ) (r : Response) → ResponseFrom s r
       → responseSaid ≡ writeResponse dispatch cc (r .rc .0) (responseHanded s r) (length room) =
       λ s r from i. writeResponse dispatch cc (from .0 i) (from .1 i) (length room) in (
-        writes room x later responseSaid answer bytes _ responseParts _ _ _ ResponseFrom
-            (λ t given typed. response.response-reads dispatch cc code h (length room) given (typed .0) (typed .1))
+        writes room x later responseSaid answer bytes _ responseParts layoutResponse (ResponseParts dispatch cc) ResponseFrom _ h code _
+            (λ t given types fits. response-taken dispatch cc code h (length room) given types fits)
+            (taken-response dispatch cc code h (length room))
+            (λ t given types fits. response.response-reads dispatch cc code h (length room) given types fits)
             (λ s are r read from enough some. back s r from
             ∙ response.response-again dispatch cc s are r read (length room) enough
             (λ under none. some (eqb-true (r .tag .0) sessions under, none))),

@@ -10,6 +10,7 @@ pub mod Rooms
 pub mod Sessions
 pub mod Single
 pub mod Steps
+pub mod Taking
 pub mod TooLarge
 pub mod Worked
 pub mod Writers

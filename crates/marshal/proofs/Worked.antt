@@ -1,5 +1,5 @@
 -- The starred rows of document 01's worked frames, together: what the definitions answer to each at the port's table, in the numbers
--- that callers see. The frames and the calls that read are frame's; here the writers come to them.
+-- that callers see. The frames and the calls that read are frame's; here the writers come to them. And the writers' order of checks.
 -- Assumes nothing.
 use mathlib.Core.Path.{_≡_, refl}
 use mathlib.Core.List.{List, [], _∷_}
@@ -10,6 +10,7 @@ use Rattle.rc.specs.Code.{readIndex, readFmt1, readFmt0, readCode}
 use Rattle.rc.specs.Known.{isKnown, knownCodes}
 use Rattle.table.specs.Dispatch.{dispatch, commandCodes}
 use Rattle.table.specs.Tags.{tags}
+use Rattle.frame.specs.declared.session.Session.{Session}
 use Rattle.frame.specs.Answer.{commandByValue, responseByValue}
 use Rattle.frame.specs.Areas.{handleArea, sizedArea}
 use Rattle.frame.specs.Command.{commandHandles, commandAreas, judgeCommand, castCommand, readCommand}
@@ -40,13 +41,13 @@ use Rattle.marshal.proofs.ResponseWriting.{responseHanded}
 
 -- ---- the calls
 
--- a call that reads; a frame read, and its parts handed to the writer with so much room; a response of some code written from what is
--- handed over
+-- a call that reads; a frame read, and its parts handed to the writer with so much room; a command of some tag and code, and a response
+-- to the command of a code, written from what is handed over
 pub data Call : Type 0 where
   reads : Asked → Call
   again-command : List ℕ → ℕ → Call
   again-response : ℕ → List ℕ → ℕ → Call
-  write-response : ℕ → ℕ → Handed → ℕ → Call
+  write-command write-response : ℕ → ℕ → Handed → ℕ → Call
 
 -- what the call answers; a writer by the bytes that it writes
 abbrev pub answer : Call → Said (List ℕ)
@@ -57,6 +58,7 @@ answer (again-command s room) =
 answer (again-response cc s room) =
     then (responseByValue s (readResponse dispatch cc s)) λ r.
     writeResponse dispatch cc (r .rc .0) (responseHanded s r) room
+answer (write-command tag code h room) = writeCommand dispatch tag code h room
 answer (write-response cc code h room) = writeResponse dispatch cc code h room
 
 -- ---- the table
@@ -110,3 +112,60 @@ results (r ∷ rs) = r .result ∷ results rs
 pub starred : answers rows ≡ results rows
 unfolding bytes number dispatch tags tagOf sizeOf codeOf readCc readRc framePrefix frameWhole readFrameTag handleArea sizedArea commandHandles commandAreas judgeCommand castCommand readCommand judgeResponse castResponse errorAreas successAreas responseAreas readResponse readTpm2b readSigned readEntry walk readCode readFmt1 readFmt0 readIndex isKnown knownCodes layoutCommand layoutResponse sessionsThere judged writeCommand writeSuccess writeError writeResponse
 starred = refl
+
+-- ---- the order of checks: in each row all that is judged later would be refused too
+
+-- a nonce and an HMAC by position and length
+abbrev pub session : ℕ → ℕ → ℕ → ℕ → Session
+session nonce-at nonce-size hmac-at hmac-size = record {
+  handle = 0x40000009;
+  nonce = record { at = nonce-at; size = nonce-size };
+  attributes = 0;
+  hmac = record { at = hmac-at; size = hmac-size };
+}
+
+-- of five lent bytes: both end within; both pass the end; the HMAC passes it
+abbrev pub whole : Session
+whole = session 0 2 2 3
+
+abbrev pub past : Session
+past = session 6 1 9 2
+
+abbrev pub half : Session
+half = session 3 2 4 3
+
+abbrev pub given : List ℕ → ℕ → Session → Session → Session → Handed
+given handles count first second third =
+    handed handles (record { count = count; first = first; second = second; third = third }) (1 ∷ 2 ∷ 3 ∷ 4 ∷ 5 ∷ []) []
+
+abbrev pub handle : List ℕ
+handle = 0x80 ∷ 0 ∷ 0 ∷ 0 ∷ []
+
+abbrev pub refusals : List Row
+refusals =
+    row (write-command 0xc4 0 (given [] 4 past past past) 0) (refuses (3 ∷ 0 ∷ 0xc4 ∷ []))
+    ∷ row (write-command 0x8001 0 (given [] 4 past past past) 0) (refuses (3 ∷ 0 ∷ 0x8001 ∷ []))
+    ∷ row (write-command 0x8002 0 (given [] 0 past past past) 0) (refuses (3 ∷ 0 ∷ 0x8002 ∷ []))
+    ∷ row (write-command 0x8002 0 (given [] 4 past past past) 0) (refuses (6 ∷ 0 ∷ 3 ∷ 4 ∷ []))
+    ∷ row (write-command 0x8002 0 (given [] 3 past past past) 0) (refuses (4 ∷ 0 ∷ 0 ∷ []))
+    ∷ row (write-command 0x8002 0x15e (given [] 3 past past past) 0) (refuses (1 ∷ 0 ∷ 4 ∷ 0 ∷ []))
+    ∷ row (write-command 0x8002 0x15e (given (0 ∷ handle) 3 past past past) 0) (refuses (2 ∷ 4 ∷ 1 ∷ []))
+    ∷ row (write-command 0x8002 0x15e (given handle 3 past half half) 0) (refuses (1 ∷ 6 ∷ 1 ∷ 0 ∷ []))
+    ∷ row (write-command 0x8002 0x15e (given handle 3 half past past) 0) (refuses (1 ∷ 4 ∷ 3 ∷ 1 ∷ []))
+    ∷ row (write-command 0x8002 0x15e (given handle 3 whole past half) 0) (refuses (1 ∷ 6 ∷ 1 ∷ 0 ∷ []))
+    ∷ row (write-command 0x8002 0x15e (given handle 3 whole whole half) 0) (refuses (1 ∷ 4 ∷ 3 ∷ 1 ∷ []))
+    ∷ row (write-command 0x8002 0x15e (given handle 2 whole whole half) 45) (refuses (9 ∷ 0 ∷ 46 ∷ 45 ∷ []))
+    ∷ row (write-response 0 0xc4 (given [] 4 past past past) 0) (refuses (6 ∷ 0 ∷ 3 ∷ 4 ∷ []))
+    ∷ row (write-response 0 0xc4 (given [] 3 past past past) 0) (refuses (4 ∷ 0 ∷ 0 ∷ []))
+    ∷ row (write-response 0x131 0xc4 (given [] 3 past past past) 0) (refuses (5 ∷ 0 ∷ 0xc4 ∷ []))
+    ∷ row (write-response 0x131 0x101 (given [] 3 past past past) 0) (refuses (3 ∷ 0 ∷ 0x8002 ∷ []))
+    ∷ row (write-response 0x131 0x101 (given [] 0 past past past) 9) (refuses (9 ∷ 0 ∷ 10 ∷ 9 ∷ []))
+    ∷ row (write-response 0x131 0 (given [] 3 past past past) 0) (refuses (1 ∷ 0 ∷ 4 ∷ 0 ∷ []))
+    ∷ row (write-response 0x131 0 (given (0 ∷ handle) 3 past past past) 0) (refuses (2 ∷ 4 ∷ 1 ∷ []))
+    ∷ row (write-response 0x131 0 (given handle 3 half past past) 0) (refuses (1 ∷ 4 ∷ 3 ∷ 1 ∷ []))
+    ∷ row (write-response 0x131 0 (given handle 2 whole whole half) 37) (refuses (9 ∷ 0 ∷ 38 ∷ 37 ∷ []))
+    ∷ []
+
+pub order : answers refusals ≡ results refusals
+unfolding dispatch readCode readFmt1 readFmt0 readIndex isKnown knownCodes sessionsThere judged writeCommand writeSuccess writeError writeResponse
+order = refl
