@@ -53,16 +53,16 @@ counted-refuses (refuses why) e = ap refuses (refuses-injective e)
 
 module _ (room : List ℕ) (x : Count) (later : List ℕ) (said : Said (List ℕ)) (answer : saidCount x ≡ counted said)
     (bytes : later ≡ roomAfter room said) where
-  pub wrote : {t : List ℕ} → said ≡ gives t → Written room x later t
-  wrote {t} e =
+  pub is-written : {t : List ℕ} → said ≡ gives t → Written room x later t
+  is-written {t} e =
       let is = room-is room e in
       (saidCount-injective x (count.Is (length t)) (answer ∙ is .0), bytes ∙ is .1)
 
-  pub refused : {why : List ℕ} → said ≡ refuses why → Refused room x later why
-  refused e = (answer ∙ ap counted e, bytes ∙ ap (roomAfter room) e)
+  pub is-refused : {why : List ℕ} → said ≡ refuses why → Refused room x later why
+  is-refused e = (answer ∙ ap counted e, bytes ∙ ap (roomAfter room) e)
 
   pub refused-exactly : {why : List ℕ} → (saidCount x ≡ refuses why) ↔ (said ≡ refuses why)
-  refused-exactly = ((λ e. counted-refuses said (sym answer ∙ e)), (λ e. refused e .0))
+  refused-exactly = ((λ e. counted-refuses said (sym answer ∙ e)), (λ e. is-refused e .0))
 
   module _ {D : Type 0} (read : List ℕ → Said D) (parts : List ℕ → D → Frame) (layout : Frame → List ℕ) (Formed : Frame → Type 0)
       (From : List ℕ → D → Type 0) (Bare : D → Type 0) (h : Handed) (code : ℕ) (asked : Frame) where
@@ -75,7 +75,7 @@ module _ (room : List ℕ) (x : Count) (later : List ℕ) (said : Said (List ℕ
         let start : (n : ℕ) → x ≡ count.Is n → (t : List ℕ) × (said ≡ gives t) × (take n (roomAfter room said) ≡ t) =
         λ n is. room-start room said (sym answer ∙ ap saidCount is) in record {
           taken = λ n is types fits. takes (start n is .0) (start n is .1) types fits;
-          written = λ t. wrote (lays t);
+          written = λ t. is-written (lays t);
           reads = λ n is types fits.
               let t : List ℕ = start n is .0 in
               let gave : said ≡ gives t = start n is .1 in
@@ -85,6 +85,6 @@ module _ (room : List ℕ) (x : Count) (later : List ℕ) (said : Said (List ℕ
               let rest : drop n later ≡ drop n room =
               ap (drop n) (bytes ∙ room-is room gave .1) ∙ drop-at t _ n long ∙ ap (λ (k : ℕ). drop k room) long in
               (d .0, ap read first ∙ d .1, ap (λ (u : List ℕ). parts u (d .0)) first ∙ d .2, rest);
-          again = λ s are d e from enough some. wrote (same s are d e from enough some);
+          again = λ s are d e from enough some. is-written (same s are d e from enough some);
           leaves = λ why is. bytes ∙ sym (room-refused room said (sym (ap saidCount is) ∙ answer));
         }

@@ -35,7 +35,7 @@ use Rattle.frame.proofs.FrameLaws.{two-tags}
 use Rattle.frame.proofs.Laws.{Promised}
 use Rattle.marshal.specs.Handed.{Handed, handed, commandFrame}
 use Rattle.marshal.specs.Write.{counted, roomAfter, writeCommand, writeResponse}
-use Rattle.marshal.proofs.Calls.{Writes, Written, Refused, writes, wrote, refused, refused-exactly}
+use Rattle.marshal.proofs.Calls.{Writes, Written, Refused, writes, is-written, is-refused, refused-exactly}
 use Rattle.marshal.proofs.CommandWriting as command
 use Rattle.marshal.proofs.CommandWriting.{commandHanded}
 use Rattle.marshal.proofs.Parts.{OfTypes}
@@ -147,7 +147,7 @@ module _ (tag code : ℕ) (h : Handed) (room : List ℕ) (x : Count) (later : Li
             (λ s are c read from enough some. back s c from
             ∙ command.command-again dispatch commandCodes has-code two-tags s c read are (length room) enough
             (λ under none. some (eqb-true (c .tag .0) sessions under, none))),
-        (λ s c from bare. refused room x later commandSaid answer bytes
+        (λ s c from bare. is-refused room x later commandSaid answer bytes
             (back s c from ∙ command.command-empty dispatch s c (length room) (bare .0) (bare .1))),
         (λ n.
             let told = refused-exactly room x later commandSaid answer bytes in
@@ -192,7 +192,7 @@ module _ (cc code : ℕ) (h : Handed) (room : List ℕ) (x : Count) (later : Lis
             (λ under none. some (eqb-true (r .tag .0) sessions under, none))),
         (λ s are r read from bare enough.
             let short = response.response-shorter dispatch cc s are r read (length room) enough (bare .0) (bare .1) in
-            (wrote room x later responseSaid answer bytes (back s r from ∙ short .0), short .1)),
+            (is-written room x later responseSaid answer bytes (back s r from ∙ short .0), short .1)),
         (λ n.
             let told = refused-exactly room x later responseSaid answer bytes in
             let large = response-too-large cc code h (length room) n in
