@@ -10,15 +10,15 @@ use lib.Dec.{eqb, leb}
 use lib.ListN.{length, take}
 use Rattle.base.specs.Field.{readField}
 use Rattle.base.specs.Members.{isIn}
-use Rattle.base.specs.Said.{Said, gives, refuses, then}
-use Rattle.base.proofs.Checks.{passes, fails, goes-on, stops, needs-gives, then-gives, gives-injective, refuses-injective, gives≢refuses}
+use Rattle.base.specs.Said.{Said, gives, refuses, then, done}
+use Rattle.base.proofs.Checks.{passes, fails, goes-on, stops, needs-gives, then-gives, done-gives, done-refuses, gives-injective}
 use Rattle.table.specs.Table.{rowFor}
 use Rattle.table.specs.Tags.{tags}
 use Rattle.table.specs.declared.row.Row.{Row}
 use Rattle.frame.specs.declared.areas.Areas.{Areas}
 use Rattle.frame.specs.declared.session.Session.{Session}
 use Rattle.frame.specs.declared.session.Entries.{Entries}
-use Rattle.frame.specs.Answer.{entriesByValue, frameOf}
+use Rattle.frame.specs.Answer.{areasOf, entriesByValue, frameOf}
 use Rattle.frame.specs.Areas.{handleArea, sizedArea}
 use Rattle.frame.specs.Command.{Division, commandHandles, commandAreas, judgeCommand, castCommand}
 use Rattle.frame.specs.Header.{tagOf, codeOf, sessions, plain, readCc, frameWhole, readFrameTag}
@@ -26,7 +26,7 @@ use Rattle.frame.specs.Parts.{entriesOf}
 use Rattle.frame.specs.Response.{castResponse, errorAreas, successAreas, responseAreas}
 use Rattle.frame.specs.Walk.{walk, byValue}
 use Rattle.frame.proofs.FrameLaws.{sized-order, two-tags}
-use Rattle.frame.proofs.Walks.{field-there}
+use Rattle.frame.proofs.Walks.{field-there, step-refused, step-given}
 use Rattle.frame.proofs.Headers.{frame-tag-is, whole-fits}
 
 -- ---- the areas
@@ -188,22 +188,34 @@ module _ (areas : Said Areas) (entries : Areas → Said (List Session)) where
   areas-refused e = stops areas _ e
 
   module _ {a : Areas} (e : gives a ≡ areas) where
-    pub walk-refused : {why : List ℕ} → refuses why ≡ entriesByValue (entries a) → refuses why ≡ divided
-    walk-refused refused = stops (entries a) _ (by (entries a) refused) ∙ goes-on areas _ e
-      where
-        by : {why : List ℕ} (w : Said (List Session)) → refuses why ≡ entriesByValue w → refuses why ≡ w
-        by (gives es) r = absurd (gives≢refuses (sym r))
-        by (refuses other) r = ap refuses (refuses-injective r)
+    pub walk-refused : {why : List ℕ} → refuses why ≡ done (entries a) → refuses why ≡ divided
+    walk-refused refused = stops (entries a) _ (done-refuses (entries a) refused) ∙ goes-on areas _ e
+
+    pub walk-done : gives tt ≡ done (entries a) → gives a ≡ areasOf divided
+    walk-done passed = ap areasOf (goes-on (entries a) _ (done-gives (entries a) passed .1) ∙ goes-on areas _ e)
 
     pub walk-read : {es : Entries} → gives es ≡ entriesByValue (entries a)
         → (ds : List Session) × (es ≡ byValue ds) × (gives (record { areas = a; entries = ds }) ≡ divided)
     walk-read read =
-        let found = by (entries a) read in
-        (found .0, found .1, goes-on (entries a) _ (found .2) ∙ goes-on areas _ e)
-      where
-        by : {es : Entries} (w : Said (List Session)) → gives es ≡ entriesByValue w → (ds : List Session) × (es ≡ byValue ds) × (gives ds ≡ w)
-        by (gives ds) r = (ds, gives-injective r, refl)
-        by (refuses why) r = absurd (gives≢refuses r)
+        let found = step-given byValue (entries a) read in
+        (found .0, found .2, goes-on (entries a) _ (found .1) ∙ goes-on areas _ e)
+
+  -- of what was divided, the areas were found and the entries passed
+  pub parts-of : {a : Areas} → gives a ≡ areasOf divided → (gives a ≡ areas) × (done (entries a) ≡ gives tt)
+  parts-of {a} told =
+      let d = step-given (λ (d : Division). d .areas) divided told in
+      let found = then-gives areas _ (sym (d .1)) in
+      let es = then-gives (entries (found .0)) _ (found .2) in
+      let is : a ≡ found .0 = d .2 ∙ ap (λ (d : Division). d .areas) (sym (gives-injective (es .2))) in
+      (ap gives is ∙ sym (found .1), ap (λ (a : Areas). done (entries a)) is ∙ ap done (es .1))
+
+-- a read by what is told of its areas
+module _ (read : Said Division) where
+  pub not-divided : {why : List ℕ} → refuses why ≡ areasOf read → refuses why ≡ read
+  not-divided e = step-refused (λ (d : Division). d .areas) read e
+
+  pub was-divided : {a : Areas} → gives a ≡ areasOf read → gives tt ≡ done read
+  was-divided e = ap done (step-given (λ (d : Division). d .areas) read e .1)
 
 -- what is given back by value of a division that was read
 pub by-value : {B : Type 0} (of : ℕ → ℕ → ℕ → Areas → Entries → B) (s : List ℕ) (read : Said Division) {a : Areas} {ds : List Session}

@@ -1,22 +1,35 @@
 -- The cases of the readings of an authorization area and of its walk, each from the tests that lead to it.
 -- Assumes nothing.
-use mathlib.Core.Path.{_≡_, refl, sym, _∙_, ap}
+use mathlib.Core.Path.{_≡_, refl, subst, sym, _∙_, ap}
 use mathlib.Core.List.{List, [], _∷_, _++_, append-assoc, append-nil}
+use mathlib.Core.Logic.{inl, inr}
 use Prim.Native.Nat.{ℕ, zero, suc, _+_, _-_, _*_, _≤_, _<_}
 use native.Mathlib.Omega.{arith}
+use native.Mathlib.Numerals.{towards-suc}
 use borrow.Author.Tests.{le-leb, lt-leb, leb-true}
 use lib.Dec.{leb}
 use lib.ListN.{length, getD, length-append}
 use Rattle.base.specs.Bytes.{number}
 use Rattle.base.specs.Field.{readField}
-use Rattle.base.specs.Said.{Said, gives, refuses, then}
-use Rattle.base.proofs.Checks.{passes, fails, goes-on, stops, needs-gives}
+use Rattle.base.specs.Said.{Said, gives, refuses, then, done}
+use Rattle.base.proofs.Checks.{passes, fails, goes-on, stops, needs-gives, cond-gives, then-gives, done-gives, gives-injective, refuses-injective, gives≢refuses}
 use Rattle.base.proofs.Widths.{read-short, read-whole}
 use Rattle.frame.specs.declared.session.Session.{Session}
 use Rattle.frame.specs.declared.session.Entries.{Entries}
-use Rattle.frame.specs.Answer.{entriesByValue}
+use Rattle.frame.specs.Answer.{behindOf, entriesByValue}
 use Rattle.frame.specs.Walk.{readTpm2b, readSigned, readEntry, behind, walk, byValue}
-use Rattle.frame.proofs.WalkLaws.{walk-end}
+use Rattle.frame.proofs.EntryLaws.{tpm2b-fits}
+use Rattle.frame.proofs.WalkLaws.{walk-end, walk-few}
+
+-- what is told of a step that gives something, and no more: the step refused where that does, and gave something where that does
+module _ {A B : Type 0} (f : A → B) where
+  pub step-refused : (x : Said A) {why : List ℕ} → refuses why ≡ then x (λ a. gives (f a)) → refuses why ≡ x
+  step-refused (gives a) e = absurd (gives≢refuses (sym e))
+  step-refused (refuses other) e = ap refuses (refuses-injective e)
+
+  pub step-given : (x : Said A) {b : B} → gives b ≡ then x (λ a. gives (f a)) → (a : A) × (gives a ≡ x) × (b ≡ f a)
+  step-given (gives a) e = (a, refl, gives-injective e)
+  step-given (refuses why) e = absurd (gives≢refuses e)
 
 -- a field that was read stands within the bytes
 pub field-there : (w place : ℕ) (s : List ℕ) {n : ℕ} → 0 < w → gives n ≡ readField w place s → place + w ≤ length s
@@ -30,6 +43,14 @@ unfolding number
 byte-read place s h =
     let same : getD s place 0 ≡ getD s place 0 * 1 + 0 = omega arith in
     ap gives same ∙ read-whole 1 place s (omega arith)
+
+-- a field of two bytes, and one of four
+two-bytes : (s : List ℕ) (place : ℕ) → place + 2 ≤ length s → {n : ℕ} → n ≡ number (getD s place 0 ∷ getD s (place + 1) 0 ∷ []) → gives n ≡ readField 2 place s
+two-bytes s place h e = ap gives e ∙ simp towards-suc (read-whole 2 place s (omega arith))
+
+pub four-bytes : (s : List ℕ) (place : ℕ) → place + 4 ≤ length s
+    → {n : ℕ} → n ≡ number (getD s place 0 ∷ getD s (place + 1) 0 ∷ getD s (place + 2) 0 ∷ getD s (place + 3) 0 ∷ []) → gives n ≡ readField 4 place s
+four-bytes s place h e = ap gives e ∙ simp towards-suc (read-whole 4 place s (omega arith))
 
 -- ---- a TPM2B
 
@@ -86,6 +107,63 @@ module _ (handle : ℕ) (s : List ℕ) (place : ℕ) where
           ∙ goes-on (readField 1 (place + 2 + nonce) s) _ (byte-read (place + 2 + nonce) s inside)
           ∙ goes-on (readTpm2b s place) _ read)
 
+-- the place behind an entry does not depend on its handle
+alike : (x : Said ℕ) (f g : ℕ → Said Session) → ((n : ℕ) → behindOf (f n) ≡ behindOf (g n)) → behindOf (then x f) ≡ behindOf (then x g)
+alike (gives n) f g e = e n
+alike (refuses why) f g e = refl
+
+pub handle-aside : (handle : ℕ) (s : List ℕ) (place : ℕ) → behindOf (readSigned 0 s place) ≡ behindOf (readSigned handle s place)
+unfolding readSigned
+handle-aside handle s place =
+    alike (readTpm2b s place) _ _ λ nonce.
+    alike (readField 1 (place + 2 + nonce) s) _ _ λ attributes.
+    alike (readTpm2b s (place + 2 + nonce + 1)) _ _ λ hmac. refl
+
+-- an entry that is there, byte by byte
+module _ (handle : ℕ) (s : List ℕ) (place : ℕ) (there : done (readSigned handle s place) ≡ gives tt) where
+  record Sized : Type 0 where
+    nonce : ℕ
+    hmac : ℕ
+    nonce-read : readTpm2b s place ≡ gives nonce
+    hmac-read : readTpm2b s (place + 2 + nonce + 1) ≡ gives hmac
+
+  sized : Sized
+  unfolding readSigned
+  sized =
+      let e = done-gives (readSigned handle s place) (sym there) in
+      let n = then-gives (readTpm2b s place) _ (sym (e .1)) in
+      let a = then-gives (readField 1 (place + 2 + n .0) s) _ (n .2) in
+      let m = then-gives (readTpm2b s (place + 2 + n .0 + 1)) _ (a .2) in
+      record { nonce = n .0; hmac = m .0; nonce-read = n .1; hmac-read = m .1 }
+
+  pub nonce-there : place + 2 ≤ length s
+  nonce-there = let inside = tpm2b-fits s place (sized .nonce-read) .1 in omega arith
+
+  module _ {nonce : ℕ} (is : nonce ≡ number (getD s place 0 ∷ getD s (place + 1) 0 ∷ [])) where
+    nonce-is : nonce ≡ sized .nonce
+    nonce-is = gives-injective (two-bytes s place nonce-there is ∙ tpm2b-fits s place (sized .nonce-read) .0)
+
+    pub hmac-there : place + 2 + nonce + 3 ≤ length s
+    hmac-there =
+        let same = nonce-is in
+        let inside = tpm2b-fits s (place + 2 + sized .nonce + 1) (sized .hmac-read) .1 in
+        omega arith
+
+    pub signed-there : {hmac : ℕ} → hmac ≡ number (getD s (place + 2 + nonce + 1) 0 ∷ getD s (place + 2 + nonce + 2) 0 ∷ [])
+        → gives (record {
+          handle = handle;
+          nonce = record { at = place + 2; size = nonce };
+          attributes = getD s (place + 2 + nonce) 0;
+          hmac = record { at = place + 2 + nonce + 3; size = hmac };
+        })
+        ≡ readSigned handle s place
+    signed-there {hmac} last =
+        let inside = hmac-there in
+        let next : place + 2 + nonce + 2 ≡ place + 2 + nonce + 1 + 1 = omega arith in
+        let read : readTpm2b s (place + 2 + nonce + 1) ≡ gives (sized .hmac) = rw nonce-is (sized .hmac-read) in
+        let hmac-is : hmac ≡ sized .hmac = gives-injective (two-bytes s (place + 2 + nonce + 1) (omega arith) (rw next at last) ∙ tpm2b-fits s (place + 2 + nonce + 1) read .0) in
+        signed-read handle s place (ap gives nonce-is ∙ sym (sized .nonce-read)) (omega arith) (ap gives hmac-is ∙ sym read)
+
 module _ (width : ℕ) (s : List ℕ) (place : ℕ) where
   pub handle-refused : {why : List ℕ} → refuses why ≡ readField width place s → refuses why ≡ readEntry width s place
   unfolding readEntry
@@ -94,6 +172,13 @@ module _ (width : ℕ) (s : List ℕ) (place : ℕ) where
   pub handle-read : {handle : ℕ} → gives handle ≡ readField width place s → readSigned handle s (place + width) ≡ readEntry width s place
   unfolding readEntry
   handle-read read = goes-on (readField width place s) _ read
+
+  -- of an entry that is there, the handle is
+  pub handle-there : 0 < width → done (readEntry width s place) ≡ gives tt → place + width ≤ length s
+  unfolding readEntry
+  handle-there some there =
+      let e = done-gives (readEntry width s place) (sym there) in
+      field-there width place s some (sym (then-gives (readField width place s) _ (sym (e .1)) .1))
 
 -- an entry with no handle before it
 pub no-handle : (s : List ℕ) (place : ℕ) → readSigned 0 s place ≡ readEntry 0 s place
@@ -144,79 +229,135 @@ module _ (width : ℕ) (s : List ℕ) (place : ℕ) (inside : place < length s) 
     unfolding walk
     walk-past read = simp (lt-leb (length s) place inside) (goes-on (readEntry width s place) _ read)
 
--- the entries found up to a place: the walk goes on from there, with as many more as may come
-pub record Found (width : ℕ) (s : List ℕ) (place : ℕ) (found : Entries) (at : ℕ) : Type 0 where
-  pub entries : List Session
+-- the entries counted up to a place: the walk goes on from there, with as many more as may come
+pub record Counted (width : ℕ) (s : List ℕ) (place count at : ℕ) : Type 0 where
   pub more : ℕ
-  pub by-value : found ≡ byValue entries
-  pub of-three : length entries + more ≡ 3
-  pub rest : walk 3 width s place ≡ then (walk more width s at) (λ es. gives (entries ++ es))
+  pub of-three : count + more ≡ 3
+  pub rest : done (walk 3 width s place) ≡ done (walk more width s at)
 
--- what is given behind nothing, and behind one entry more
-behind-none : (walked : Said (List Session)) → walked ≡ then walked (λ es. gives es)
-behind-none (gives es) = refl
-behind-none (refuses why) = refl
+pub none-counted : (width : ℕ) (s : List ℕ) (place : ℕ) → Counted width s place 0 place
+none-counted width s place = record { more = 3; of-three = refl; rest = refl }
 
-behind-one : (a : List Session) (e : Session) (walked : Said (List Session))
-    → then (then walked (λ es. gives (e ∷ es))) (λ es. gives (a ++ es)) ≡ then walked (λ es. gives ((a ++ (e ∷ [])) ++ es))
-behind-one a e (gives es) = ap gives (sym (append-assoc a (e ∷ []) es))
-behind-one a e (refuses why) = refl
-
-pub none-found : (width : ℕ) (s : List ℕ) (place : ℕ) → Found width s place (byValue []) place
-none-found width s place = record {
-  entries = [];
-  more = 3;
-  by-value = refl;
-  of-three = refl;
-  rest = behind-none (walk 3 width s place);
-}
-
-module _ {width : ℕ} {s : List ℕ} {place : ℕ} {found : Entries} {at : ℕ} (f : Found width s place found at) where
-  found-count : found .count ≡ length (f .entries)
-  found-count = ap (λ (x : Entries). x .count) (f .by-value)
-
-  pub one-to-come : (found .count ≡ 3 → ⊥) → found .count < 3
-  one-to-come room =
-      let n = found-count in
-      let three = f .of-three in
-      omega arith
+module _ {width : ℕ} {s : List ℕ} {place count at : ℕ} (f : Counted width s place count at) where
+  pub one-to-come : (count ≡ 3 → ⊥) → count < 3
+  one-to-come room = let three = f .of-three in omega arith
 
   -- what the rest refuses, the walk does
-  rest-refused : {why : List ℕ} → refuses why ≡ walk (f .more) width s at → refuses why ≡ entriesByValue (walk 3 width s place)
-  rest-refused r = stops (walk 3 width s place) _ (stops (walk (f .more) width s at) _ r ∙ sym (f .rest))
+  rest-refused : {why : List ℕ} → refuses why ≡ walk (f .more) width s at → refuses why ≡ done (walk 3 width s place)
+  rest-refused r = ap done r ∙ sym (f .rest)
 
-  pub all-found : length s ≤ at → gives found ≡ entriesByValue (walk 3 width s place)
-  all-found end =
-      let whole : walk 3 width s place ≡ gives (f .entries) = f .rest ∙ rw (walk-end (f .more) width s at end, append-nil) in
-      ap gives (f .by-value) ∙ goes-on (walk 3 width s place) _ (sym whole)
+  pub all-counted : length s ≤ at → gives tt ≡ done (walk 3 width s place)
+  all-counted end = sym (f .rest ∙ ap done (walk-end (f .more) width s at end))
 
   module _ (inside : at < length s) where
-    pub one-too-many : found .count ≡ 3 → refuses (6 ∷ at ∷ 3 ∷ 4 ∷ []) ≡ entriesByValue (walk 3 width s place)
+    pub one-too-many : count ≡ 3 → refuses (6 ∷ at ∷ 3 ∷ 4 ∷ []) ≡ done (walk 3 width s place)
     one-too-many full =
-        let n = found-count in
         let three = f .of-three in
         let none : f .more ≡ 0 = omega arith in
         rest-refused (rw none (walk-full width s at inside))
 
-    module _ (room : found .count ≡ 3 → ⊥) where
+    module _ (room : count ≡ 3 → ⊥) where
       one-more : f .more ≡ suc (f .more - 1)
       one-more =
-          let n = found-count in
           let few = one-to-come room in
           let three = f .of-three in
           omega arith
 
-      pub entry-refused : {why : List ℕ} → refuses why ≡ readEntry width s at → refuses why ≡ entriesByValue (walk 3 width s place)
-      entry-refused read = rest-refused (rw one-more (walk-refused width s at inside (f .more - 1) read))
+      pub entry-refused : {why : List ℕ} → refuses why ≡ behindOf (readEntry width s at) → refuses why ≡ done (walk 3 width s place)
+      entry-refused read =
+          rest-refused (rw one-more (walk-refused width s at inside (f .more - 1) (step-refused behind (readEntry width s at) read)))
 
-      pub one-found : {e : Session} {new : Entries} → gives e ≡ readEntry width s at
-          → ((es : List Session) → found ≡ byValue es → new ≡ byValue (es ++ (e ∷ []))) → Found width s place new (behind e)
-      one-found {e} read one = record {
-        entries = f .entries ++ (e ∷ []);
+      one-past : {e : Session} → gives e ≡ readEntry width s at → Counted width s place (count + 1) (behind e)
+      one-past {e} read = record {
         more = f .more - 1;
-        by-value = one (f .entries) (f .by-value);
-        of-three = let m = one-more in let three = f .of-three in rw length-append (omega arith);
+        of-three = let m = one-more in let three = f .of-three in omega arith;
         rest =
             let past = walk-past width s at inside (f .more - 1) read ∙ ap (λ (k : ℕ). walk k width s at) (sym one-more) in
-            f .rest ∙ rw (← past) (behind-one (f .entries) e (walk (f .more - 1) width s (behind e)));
+            f .rest ∙ sym (by (walk (f .more - 1) width s (behind e)) ∙ ap done past);
       }
+        where
+          by : (walked : Said (List Session)) → done walked ≡ done (then walked (λ es. gives (e ∷ es)))
+          by (gives es) = refl
+          by (refuses why) = refl
+
+      pub one-counted : {end : ℕ} → gives end ≡ behindOf (readEntry width s at) → Counted width s place (count + 1) end
+      one-counted read =
+          let one = step-given behind (readEntry width s at) read in
+          subst (Counted width s place (count + 1)) (sym (one .2)) (one-past (one .1))
+
+-- ---- the entries that were walked over
+
+-- the first of the entries from a place on
+record Next (width : ℕ) (s : List ℕ) (at : ℕ) (es : List Session) : Type 0 where
+  first : Session
+  others : List Session
+  fewer : ℕ
+  are : es ≡ first ∷ others
+  read : readEntry width s at ≡ gives first
+  rest : walk fewer width s (behind first) ≡ gives others
+
+next-of : (k width : ℕ) (s : List ℕ) (at : ℕ) {es : List Session} → at < length s → walk k width s at ≡ gives es → Next width s at es
+unfolding walk
+next-of zero width s at inside e =
+    let end = leb-true (length s) at (needs-gives (leb (length s) at) _ _ e .0) in
+    absurd (omega arith)
+next-of (suc k) width s at inside e = elim (cond-gives (leb (length s) at) _ _ e) [
+  | inl ended ↦ let end = leb-true (length s) at (ended .0) in absurd (omega arith)
+  | inr more ↦
+      let one = then-gives (readEntry width s at) _ (more .1) in
+      let others = then-gives (walk k width s (behind (one .0))) _ (one .2) in
+      record { first = one .0; others = others .0; fewer = k; are = sym (gives-injective (others .2)); read = one .1; rest = others .1 }
+]
+
+-- the entries read up to a place: those that are left follow there
+pub record Found (width : ℕ) (s : List ℕ) (place : ℕ) (found : Entries) (at : ℕ) : Type 0 where
+  pub entries : List Session
+  pub left : List Session
+  pub more : ℕ
+  pub by-value : found ≡ byValue entries
+  pub all : walk 3 width s place ≡ gives (entries ++ left)
+  pub rest : walk more width s at ≡ gives left
+
+pub none-found : (width : ℕ) (s : List ℕ) (place : ℕ) → done (walk 3 width s place) ≡ gives tt → Found width s place (byValue []) place
+none-found width s place e =
+    let walked = done-gives (walk 3 width s place) (sym e) in
+    record { entries = []; left = walked .0; more = 3; by-value = refl; all = sym (walked .1); rest = sym (walked .1) }
+
+module _ {width : ℕ} {s : List ℕ} {place : ℕ} {found : Entries} {at : ℕ} (f : Found width s place found at) where
+  pub all-found : length s ≤ at → gives found ≡ entriesByValue (walk 3 width s place)
+  all-found end =
+      let none : [] ≡ f .left = gives-injective (sym (walk-end (f .more) width s at end) ∙ f .rest) in
+      let all : f .entries ≡ f .entries ++ f .left = sym (append-nil (f .entries)) ∙ ap (λ (es : List Session). f .entries ++ es) none in
+      ap gives (f .by-value) ∙ goes-on (walk 3 width s place) _ (ap gives all ∙ sym (f .all))
+
+  module _ (inside : at < length s) where
+    next : Next width s at (f .left)
+    next = next-of (f .more) width s at inside (f .rest)
+
+    pub one-there : done (readEntry width s at) ≡ gives tt
+    one-there = ap done (next .read)
+
+    -- at most three are told, and one more is left
+    pub found-few : found .count < 3
+    found-few =
+        let n = ap (λ (x : Entries). x .count) (f .by-value) in
+        let few = walk-few 3 width s place (f .all) in
+        let long = length-append (f .entries) (f .left) in
+        let one = ap length (next .are) in
+        omega arith
+
+    pub one-found : {e : Session} {new : Entries} → gives e ≡ readEntry width s at
+        → ((es : List Session) → found ≡ byValue es → new ≡ byValue (es ++ (e ∷ []))) → Found width s place new (behind e)
+    one-found {e} read one =
+        let is : next .first ≡ e = gives-injective (sym (next .read) ∙ sym read) in
+        let are : f .left ≡ e ∷ next .others = next .are ∙ ap (λ (x : Session). x ∷ next .others) is in
+        record {
+          entries = f .entries ++ (e ∷ []);
+          left = next .others;
+          more = next .fewer;
+          by-value = one (f .entries) (f .by-value);
+          all =
+              f .all ∙ ap (λ (es : List Session). gives (f .entries ++ es)) are
+              ∙ ap gives (sym (append-assoc (f .entries) (e ∷ []) (next .others)));
+          rest = rw is at (next .rest);
+        }

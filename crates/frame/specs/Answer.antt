@@ -13,10 +13,6 @@ use Rattle.frame.specs.declared.areas.Divided.{Divided}
 use Rattle.frame.specs.declared.areas.Divided.the-variants as divided
 use Rattle.frame.specs.declared.session.Session.{Session}
 use Rattle.frame.specs.declared.session.Entries.{Entries}
-use Rattle.frame.specs.declared.walk.Entered.{Entered}
-use Rattle.frame.specs.declared.walk.Entered.the-variants as entered
-use Rattle.frame.specs.declared.walk.Walked.{Walked}
-use Rattle.frame.specs.declared.walk.Walked.the-variants as walked
 use Rattle.frame.specs.declared.command.Command.{Command}
 use Rattle.frame.specs.declared.command.CommandRead.{CommandRead}
 use Rattle.frame.specs.declared.command.CommandRead.the-variants as command
@@ -25,19 +21,11 @@ use Rattle.frame.specs.declared.response.ResponseRead.{ResponseRead}
 use Rattle.frame.specs.declared.response.ResponseRead.the-variants as response
 use Rattle.frame.specs.Command.{Division}
 use Rattle.frame.specs.Header.{tagOf, codeOf}
-use Rattle.frame.specs.Walk.{byValue}
+use Rattle.frame.specs.Walk.{behind, byValue}
 
 abbrev pub saidAreas : Divided → Said Areas
 saidAreas (divided.Is a) = gives a
 saidAreas (divided.Refused e) = refuses (numbered e)
-
-abbrev pub saidEntered : Entered → Said Session
-saidEntered (entered.Is e) = gives e
-saidEntered (entered.Refused e) = refuses (numbered e)
-
-abbrev pub saidWalked : Walked → Said Entries
-saidWalked (walked.Is es) = gives es
-saidWalked (walked.Refused e) = refuses (numbered e)
 
 abbrev pub saidCommand : CommandRead → Said Command
 saidCommand (command.Is c) = gives c
@@ -46,6 +34,13 @@ saidCommand (command.Refused e) = refuses (numbered e)
 abbrev pub saidResponse : ResponseRead → Said Response
 saidResponse (response.Is r) = gives r
 saidResponse (response.Refused e) = refuses (numbered e)
+
+-- what is asked of an entry and of a division by those who need no more: the place behind the one, the areas of the other
+abbrev pub behindOf : Said Session → Said ℕ
+behindOf read = then read λ e. gives (behind e)
+
+abbrev pub areasOf : Said Division → Said Areas
+areasOf division = then division λ d. gives (d .areas)
 
 -- the entries that a walk gives, by value
 abbrev pub entriesByValue : Said (List Session) → Said Entries

@@ -6,7 +6,7 @@ ghost use Rattle.base.specs.Answer.{saidCommandCode, saidCount, saidOutcome, sa
 ghost use Rattle.base.specs.Parts.{IsPart, Ties, behind, upTo};
 ghost use Rattle.base.specs.Said.{after, done};
 ghost use Rattle.table.specs.Dispatch.{commandCodes, dispatch};
-ghost use Rattle.frame.specs.Answer.{commandByValue, saidAreas, saidCommand, whole};
+ghost use Rattle.frame.specs.Answer.{areasOf, commandByValue, saidAreas, saidCommand, whole};
 ghost use Rattle.frame.specs.Command.{authRange, castCommand, castCommandPrefix, commandAreas, commandHandles, handlesRange, judgeCommand, parametersRange, readCommand};
 ghost use Rattle.frame.specs.Header.{readCc, setCc};
 use crate::areas::Divided;
@@ -19,7 +19,7 @@ use crate::header::frame_tag;
 use crate::header::frame_whole;
 use crate::header::short;
 use crate::session::Entries;
-use crate::walk::Walked;
+use crate::walk::entries;
 use crate::walk::walk;
 use base::answer::CommandCode;
 use base::answer::Count;
@@ -298,19 +298,28 @@ pub fn cast_prefix_tail_mut(s: &mut [u8]) -> &mut [u8]
 
 // ---- the full check
 
+// The areas, where the entries pass.
+fn divide(s: &[u8]) -> Divided
+    ensures { λ r. ⌜ saidAreas r ≡ areasOf (readCommand dispatch commandCodes (now (s .entry))) ⌝ }
+{
+    match cast_areas(s) {
+        Divided::Refused(e) => Divided::Refused(e),
+        Divided::Is(a) => {
+            let to = a.to;
+            match walk(true, &s[..to], a.from) {
+                Outcome::Refused(e) => Divided::Refused(e),
+                Outcome::Done => Divided::Is(a),
+            }
+        }
+    }
+}
+
 pub fn validate(s: &[u8]) -> Outcome
     ensures { λ r. ⌜ saidOutcome r ≡ done (readCommand dispatch commandCodes (now (s .entry))) ⌝ }
 {
-    match cast_areas(s) {
+    match divide(s) {
         Divided::Refused(e) => Outcome::Refused(e),
-        Divided::Is(a) => {
-            let from = a.from;
-            let to = a.to;
-            match walk(true, &s[..to], from) {
-                Walked::Refused(e) => Outcome::Refused(e),
-                Walked::Is(_) => Outcome::Done,
-            }
-        }
+        Divided::Is(_) => Outcome::Done,
     }
 }
 
@@ -318,28 +327,25 @@ pub fn validate(s: &[u8]) -> Outcome
 pub fn parts(s: &[u8]) -> CommandRead
     ensures { λ r. ⌜ saidCommand r ≡ commandByValue (now (s .entry)) (readCommand dispatch commandCodes (now (s .entry))) ⌝ }
 {
-    match cast_areas(s) {
+    match divide(s) {
         Divided::Refused(e) => CommandRead::Refused(e),
         Divided::Is(a) => {
             let from = a.from;
             let to = a.to;
-            match walk(true, &s[..to], from) {
-                Walked::Refused(e) => CommandRead::Refused(e),
-                Walked::Is(entries) => CommandRead::Is(Command {
-                    tag: TpmSt(be16(s[0], s[1])),
-                    cc: TpmCc(be32(s[6], s[7], s[8], s[9])),
-                    handles: Span {
-                        from: HEADER_SIZE,
-                        to: a.handles,
-                    },
-                    auth: Span { from, to },
-                    parameters: Span {
-                        from: to,
-                        to: s.len(),
-                    },
-                    entries,
-                }),
-            }
+            CommandRead::Is(Command {
+                tag: TpmSt(be16(s[0], s[1])),
+                cc: TpmCc(be32(s[6], s[7], s[8], s[9])),
+                handles: Span {
+                    from: HEADER_SIZE,
+                    to: a.handles,
+                },
+                auth: Span { from, to },
+                parameters: Span {
+                    from: to,
+                    to: s.len(),
+                },
+                entries: entries(true, &s[..to], from),
+            })
         }
     }
 }

@@ -7,7 +7,7 @@ ghost use Rattle.base.specs.Answer.{saidOutcome, saidRange, saidResponseCode};
 ghost use Rattle.base.specs.Parts.{IsPart, Ties, behind, upTo};
 ghost use Rattle.base.specs.Said.{after, done};
 ghost use Rattle.table.specs.Dispatch.{dispatch};
-ghost use Rattle.frame.specs.Answer.{responseByValue, saidAreas, saidResponse, whole};
+ghost use Rattle.frame.specs.Answer.{areasOf, responseByValue, saidAreas, saidResponse, whole};
 ghost use Rattle.frame.specs.Header.{readRc, setRc};
 ghost use Rattle.frame.specs.Response.{bodyRange, castResponse, castResponsePrefix, errorAreas, judgeResponse, readResponse, responseAreas, successAreas};
 use crate::areas::Areas;
@@ -22,7 +22,7 @@ use crate::header::frame_tag;
 use crate::header::frame_whole;
 use crate::header::short;
 use crate::session::Entries;
-use crate::walk::Walked;
+use crate::walk::entries;
 use crate::walk::walk;
 use base::answer::Count;
 use base::answer::Outcome;
@@ -270,15 +270,25 @@ fn areas(cc: TpmCc, s: &[u8]) -> Divided
     }
 }
 
+// The areas, where the entries pass.
+fn divide(cc: TpmCc, s: &[u8]) -> Divided
+    ensures { λ r. ⌜ saidAreas r ≡ areasOf (readResponse dispatch (cc .0) (now (s .entry))) ⌝ }
+{
+    match areas(cc, s) {
+        Divided::Refused(e) => Divided::Refused(e),
+        Divided::Is(a) => match walk(false, s, a.to) {
+            Outcome::Refused(e) => Divided::Refused(e),
+            Outcome::Done => Divided::Is(a),
+        },
+    }
+}
+
 pub fn validate(cc: TpmCc, s: &[u8]) -> Outcome
     ensures { λ r. ⌜ saidOutcome r ≡ done (readResponse dispatch (cc .0) (now (s .entry))) ⌝ }
 {
-    match areas(cc, s) {
+    match divide(cc, s) {
         Divided::Refused(e) => Outcome::Refused(e),
-        Divided::Is(a) => match walk(false, s, a.to) {
-            Walked::Refused(e) => Outcome::Refused(e),
-            Walked::Is(_) => Outcome::Done,
-        },
+        Divided::Is(_) => Outcome::Done,
     }
 }
 
@@ -286,27 +296,24 @@ pub fn validate(cc: TpmCc, s: &[u8]) -> Outcome
 pub fn parts(cc: TpmCc, s: &[u8]) -> ResponseRead
     ensures { λ r. ⌜ saidResponse r ≡ responseByValue (now (s .entry)) (readResponse dispatch (cc .0) (now (s .entry))) ⌝ }
 {
-    match areas(cc, s) {
+    match divide(cc, s) {
         Divided::Refused(e) => ResponseRead::Refused(e),
-        Divided::Is(a) => match walk(false, s, a.to) {
-            Walked::Refused(e) => ResponseRead::Refused(e),
-            Walked::Is(entries) => ResponseRead::Is(Response {
-                tag: TpmSt(be16(s[0], s[1])),
-                rc: TpmRc(be32(s[6], s[7], s[8], s[9])),
-                handles: Span {
-                    from: HEADER_SIZE,
-                    to: a.handles,
-                },
-                auth: Span {
-                    from: a.to,
-                    to: s.len(),
-                },
-                parameters: Span {
-                    from: a.from,
-                    to: a.to,
-                },
-                entries,
-            }),
-        },
+        Divided::Is(a) => ResponseRead::Is(Response {
+            tag: TpmSt(be16(s[0], s[1])),
+            rc: TpmRc(be32(s[6], s[7], s[8], s[9])),
+            handles: Span {
+                from: HEADER_SIZE,
+                to: a.handles,
+            },
+            auth: Span {
+                from: a.to,
+                to: s.len(),
+            },
+            parameters: Span {
+                from: a.from,
+                to: a.to,
+            },
+            entries: entries(false, s, a.to),
+        }),
     }
 }

@@ -1,27 +1,22 @@
 // The walk over the entries of an authorization area, one for commands and responses.
 ghost use mathlib.Core.Path.{_≡_};
-ghost use Rattle.base.specs.Answer.{saidNumber16};
-ghost use Rattle.frame.specs.Answer.{entriesByValue, handleWidth, saidEntered, saidWalked};
+ghost use Rattle.base.specs.Answer.{saidCount, saidNumber16, saidOutcome};
+ghost use Rattle.base.specs.Said.{done, gives};
+ghost use Rattle.frame.specs.Answer.{behindOf, entriesByValue, handleWidth};
 ghost use Rattle.frame.specs.Walk.{readEntry, readSigned, readTpm2b, walk};
 use crate::session::Entries;
 use crate::session::Field;
 use crate::session::MAX_SESSIONS;
 use crate::session::Session;
+use base::answer::Count;
 use base::answer::Number16;
 use base::answer::Number32;
+use base::answer::Outcome;
 use base::error::TpmError;
+use base::field::be16;
+use base::field::be32;
 use base::field::read_u16;
 use base::field::read_u32;
-
-pub(crate) enum Entered {
-    Is(Session),
-    Refused(TpmError),
-}
-
-pub(crate) enum Walked {
-    Is(Entries),
-    Refused(TpmError),
-}
 
 // The size of the TPM2B at a place. A short one is refused at its length field, and its length counts.
 fn tpm2b(s: &[u8], place: usize) -> Number16
@@ -43,86 +38,126 @@ fn tpm2b(s: &[u8], place: usize) -> Number16
     Number16::Is(size)
 }
 
-// What every entry has: nonce, attribute byte and HMAC.
-fn signed(handle: u32, s: &[u8], place: usize) -> Entered
-    ensures { λ r. ⌜ saidEntered r ≡ readSigned handle (now (s .entry)) place ⌝ }
+// The place behind what every entry has: nonce, attribute byte and HMAC.
+fn behind_signed(s: &[u8], place: usize) -> Count
+    ensures { λ r. ⌜ saidCount r ≡ behindOf (readSigned 0 (now (s .entry)) place) ⌝ }
 {
     match tpm2b(s, place) {
-        Number16::Refused(e) => Entered::Refused(e),
+        Number16::Refused(e) => Count::Refused(e),
         Number16::Is(nonce) => {
             let at = place + 2 + nonce as usize;
             if s.len() <= at {
-                return Entered::Refused(TpmError::UnexpectedEnd {
+                return Count::Refused(TpmError::UnexpectedEnd {
                     offset: at,
                     needed: 1,
                     available: 0,
                 });
             }
             match tpm2b(s, at + 1) {
-                Number16::Refused(e) => Entered::Refused(e),
-                Number16::Is(hmac) => Entered::Is(Session {
-                    handle,
-                    nonce: Field {
-                        at: place + 2,
-                        size: nonce,
-                    },
-                    attributes: s[at],
-                    hmac: Field {
-                        at: at + 3,
-                        size: hmac,
-                    },
-                }),
+                Number16::Refused(e) => Count::Refused(e),
+                Number16::Is(hmac) => Count::Is(at + 3 + hmac as usize),
             }
         }
     }
 }
 
-// An entry, with a handle before it in a command.
-fn entry(command: bool, s: &[u8], place: usize) -> Entered
-    ensures { λ r. ⌜ saidEntered r ≡ readEntry (handleWidth command) (now (s .entry)) place ⌝ }
+// The place behind an entry, with a handle before it in a command.
+fn behind_entry(command: bool, s: &[u8], place: usize) -> Count
+    ensures { λ r. ⌜ saidCount r ≡ behindOf (readEntry (handleWidth command) (now (s .entry)) place) ⌝ }
 {
     if command {
         match read_u32(s, place) {
-            Number32::Refused(e) => Entered::Refused(e),
-            Number32::Is(handle) => signed(handle, s, place + 4),
+            Number32::Refused(e) => Count::Refused(e),
+            Number32::Is(_) => behind_signed(s, place + 4),
         }
     } else {
-        signed(0, s, place)
+        behind_signed(s, place)
     }
 }
 
-// The entries from a place of s to its end.
-pub(crate) fn walk(command: bool, s: &[u8], place: usize) -> Walked
-    ensures { λ r. ⌜ saidWalked r ≡ entriesByValue (walk 3 (handleWidth command) (now (s .entry)) place) ⌝ }
+// Whether what stands from a place of s to its end is entries.
+pub(crate) fn walk(command: bool, s: &[u8], place: usize) -> Outcome
+    ensures { λ r. ⌜ saidOutcome r ≡ done (walk 3 (handleWidth command) (now (s .entry)) place) ⌝ }
 {
-    let mut found = Entries::new();
+    let mut count = 0;
     let mut at = place;
     while at < s.len() {
-        if found.count == MAX_SESSIONS {
-            return Walked::Refused(TpmError::TooManyItems {
+        if count == MAX_SESSIONS {
+            return Outcome::Refused(TpmError::TooManyItems {
                 offset: at,
                 limit: MAX_SESSIONS,
                 actual: MAX_SESSIONS + 1,
             });
         }
-        match entry(command, s, at) {
-            Entered::Refused(e) => return Walked::Refused(e),
-            Entered::Is(e) => {
-                at = e.hmac.at + e.hmac.size as usize;
-                if found.count == 0 {
-                    found.count = 1;
-                    found.first = e;
-                    continue;
-                }
-                if found.count == 1 {
-                    found.count = 2;
-                    found.second = e;
-                    continue;
-                }
-                found.count = MAX_SESSIONS;
-                found.third = e;
+        match behind_entry(command, s, at) {
+            Count::Refused(e) => return Outcome::Refused(e),
+            Count::Is(end) => {
+                at = end;
+                count += 1;
             }
         }
     }
-    Walked::Is(found)
+    Outcome::Done
+}
+
+// ---- what was walked over, read without a check
+
+// What every entry has, where it stands.
+fn signed_at(handle: u32, s: &[u8], place: usize) -> Session
+    requires { ⌜ done (readSigned handle (now s) place) ≡ gives tt ⌝ }
+    ensures { λ r. ⌜ gives r ≡ readSigned handle (now (s .entry)) place ⌝ }
+{
+    let nonce = be16(s[place], s[place + 1]);
+    let at = place + 2 + nonce as usize;
+    Session {
+        handle,
+        nonce: Field {
+            at: place + 2,
+            size: nonce,
+        },
+        attributes: s[at],
+        hmac: Field {
+            at: at + 3,
+            size: be16(s[at + 1], s[at + 2]),
+        },
+    }
+}
+
+// An entry, where one stands.
+fn entry_at(command: bool, s: &[u8], place: usize) -> Session
+    requires { ⌜ done (readEntry (handleWidth command) (now s) place) ≡ gives tt ⌝ }
+    ensures { λ r. ⌜ gives r ≡ readEntry (handleWidth command) (now (s .entry)) place ⌝ }
+{
+    if command {
+        let handle = be32(s[place], s[place + 1], s[place + 2], s[place + 3]);
+        signed_at(handle, s, place + 4)
+    } else {
+        signed_at(0, s, place)
+    }
+}
+
+// The entries from a place of s to its end.
+pub(crate) fn entries(command: bool, s: &[u8], place: usize) -> Entries
+    requires { ⌜ done (walk 3 (handleWidth command) (now s) place) ≡ gives tt ⌝ }
+    ensures { λ r. ⌜ gives r ≡ entriesByValue (walk 3 (handleWidth command) (now (s .entry)) place) ⌝ }
+{
+    let mut found = Entries::new();
+    let mut at = place;
+    while at < s.len() {
+        let e = entry_at(command, s, at);
+        at = e.hmac.at + e.hmac.size as usize;
+        if found.count == 0 {
+            found.count = 1;
+            found.first = e;
+            continue;
+        }
+        if found.count == 1 {
+            found.count = 2;
+            found.second = e;
+            continue;
+        }
+        found.count = MAX_SESSIONS;
+        found.third = e;
+    }
+    found
 }

@@ -1,22 +1,25 @@
--- `frame::command::parts` meets its contract: it goes by what the areas and the walk said; tag and code are read byte by byte.
+-- `frame::command::parts` meets its contract: it goes by what `divide` said, and the entries that passed are read again; tag and code are read
+-- byte by byte.
 -- Assumes nothing.
-use Rattle.frame.proofs.Divisions.{commandEntries, areas-refused, walk-refused, walk-read, by-value, cast-fits}
-use mathlib.Core.Path.{ap, _∙_, sym}
-use denote.Ref.{now}
-use Rattle.frame.specs.Answer.{saidAreas, saidWalked}
-use Rattle.table.specs.Dispatch.{dispatch, commandCodes}
-use Rattle.frame.specs.Command.{castCommand, readCommand}
-use Rattle.base.proofs.Answers.{learnt}
-use lib.Seq.{length-take-le}
+use mathlib.Core.Path.{_≡_, ap, _∙_, sym}
+use Prim.Native.Nat.{_≤_}
 use native.Mathlib.Omega.{arith}
-use Rattle.frame.specs.Answer.{commandOf, commandByValue}
+use denote.Ref.{now}
+use lib.ListN.{length}
+use lib.Seq.{length-take-le}
+use Rattle.base.specs.Said.{gives, done}
+use Rattle.base.proofs.Answers.{learnt}
+use Rattle.table.specs.Dispatch.{dispatch, commandCodes}
+use Rattle.frame.specs.Answer.{commandByValue, commandOf, saidAreas}
+use Rattle.frame.specs.Command.{castCommand, readCommand}
+use Rattle.frame.proofs.Divisions.{commandEntries, parts-of, walk-read, not-divided, by-value, cast-fits}
 use Rattle.frame.proofs.Headers.{tag-bytes, code-bytes}
 use borrow.Author.Needs.{needs}
 use Rattle.frame.proofs.command.parts.Statement.{statement}
 use Rattle.frame.proofs.command.parts.Tie as tie
 
-cast-areas-requires : tie.Need-cast-areas-requires
-cast-areas-requires c κs = search needs
+divide-requires : tie.Need-divide-requires
+divide-requires c κs = search needs
 
 enum-known-e : tie.Need-enum-known-e
 enum-known-e c = search needs
@@ -24,73 +27,66 @@ enum-known-e c = search needs
 enum-known-a : tie.Need-enum-known-a
 enum-known-a c = search needs
 
-slice-aggregate-walk : tie.Need-slice-aggregate-walk
-slice-aggregate-walk c = sym (length-take-le _ _ (cast-fits dispatch commandCodes (now (c .before .before .before .before .before .before .args .s)) (learnt saidAreas (c .before .before .a .given .1) (c .before .before .before .before .cast-areas .ensures)) .4))
+-- the areas were found, and the entries passed
+found : (c : tie.After-a)
+    → (gives (c .a .given .0 .0) ≡ castCommand dispatch commandCodes (now (c .before .before .before .before .args .s)))
+    × (done (commandEntries (now (c .before .before .before .before .args .s)) (c .a .given .0 .0)) ≡ gives tt)
+unfolding readCommand
+found c = parts-of _ (commandEntries (now (c .before .before .before .before .args .s))) (learnt saidAreas (c .a .given .1) (c .before .before .divide .ensures))
 
-walk-requires : tie.Need-walk-requires
-walk-requires c κs = search needs
-
-enum-known-e-2 : tie.Need-enum-known-e-2
-enum-known-e-2 c = search needs
-
-enum-known-entries : tie.Need-enum-known-entries
-enum-known-entries c = search needs
+header-there : (c : tie.After-a) → 10 ≤ length (now (c .before .before .before .before .args .s))
+header-there c = cast-fits dispatch commandCodes _ (found c .0) .0
 
 shared-slice-read-be16 : tie.Need-shared-slice-read-be16
-shared-slice-read-be16 c = let ten = cast-fits dispatch commandCodes (now (c .before .before .before .before .before .before .before .before .before .before .before .args .s)) (learnt saidAreas (c .before .before .before .before .before .before .before .a .given .1) (c .before .before .before .before .before .before .before .before .before .cast-areas .ensures)) .0 in omega arith
+shared-slice-read-be16 c = let ten = header-there (c .before .before) in omega arith
 
 shared-slice-read-be16-2 : tie.Need-shared-slice-read-be16-2
-shared-slice-read-be16-2 c = let ten = cast-fits dispatch commandCodes (now (c .before .before .before .before .before .before .before .before .before .before .before .before .args .s)) (learnt saidAreas (c .before .before .before .before .before .before .before .before .a .given .1) (c .before .before .before .before .before .before .before .before .before .before .cast-areas .ensures)) .0 in omega arith
+shared-slice-read-be16-2 c = let ten = header-there (c .before .before .before) in omega arith
 
 be16-requires : tie.Need-be16-requires
 be16-requires c κs = search needs
 
 shared-slice-read-be32 : tie.Need-shared-slice-read-be32
-shared-slice-read-be32 c = let ten = cast-fits dispatch commandCodes (now (c .before .before .before .before .before .before .before .before .before .before .before .before .before .before .args .s)) (learnt saidAreas (c .before .before .before .before .before .before .before .before .before .before .a .given .1) (c .before .before .before .before .before .before .before .before .before .before .before .before .cast-areas .ensures)) .0 in omega arith
+shared-slice-read-be32 c = let ten = header-there (c .before .before .before .before .before) in omega arith
 
 shared-slice-read-be32-2 : tie.Need-shared-slice-read-be32-2
-shared-slice-read-be32-2 c = let ten = cast-fits dispatch commandCodes (now (c .before .before .before .before .before .before .before .before .before .before .before .before .before .before .before .args .s)) (learnt saidAreas (c .before .before .before .before .before .before .before .before .before .before .before .a .given .1) (c .before .before .before .before .before .before .before .before .before .before .before .before .before .cast-areas .ensures)) .0 in omega arith
+shared-slice-read-be32-2 c = let ten = header-there (c .before .before .before .before .before .before) in omega arith
 
 shared-slice-read-be32-3 : tie.Need-shared-slice-read-be32-3
-shared-slice-read-be32-3 c = let ten = cast-fits dispatch commandCodes (now (c .before .before .before .before .before .before .before .before .before .before .before .before .before .before .before .before .args .s)) (learnt saidAreas (c .before .before .before .before .before .before .before .before .before .before .before .before .a .given .1) (c .before .before .before .before .before .before .before .before .before .before .before .before .before .before .cast-areas .ensures)) .0 in omega arith
+shared-slice-read-be32-3 c = let ten = header-there (c .before .before .before .before .before .before .before) in omega arith
 
 shared-slice-read-be32-4 : tie.Need-shared-slice-read-be32-4
-shared-slice-read-be32-4 c = let ten = cast-fits dispatch commandCodes (now (c .before .before .before .before .before .before .before .before .before .before .before .before .before .before .before .before .before .args .s)) (learnt saidAreas (c .before .before .before .before .before .before .before .before .before .before .before .before .before .a .given .1) (c .before .before .before .before .before .before .before .before .before .before .before .before .before .before .before .cast-areas .ensures)) .0 in omega arith
+shared-slice-read-be32-4 c = let ten = header-there (c .before .before .before .before .before .before .before .before) in omega arith
 
 be32-requires : tie.Need-be32-requires
 be32-requires c κs = search needs
 
+slice-aggregate-entries : tie.Need-slice-aggregate-entries
+slice-aggregate-entries c = sym (length-take-le _ _ (cast-fits dispatch commandCodes _ (found (c .before .before .before .before .before .before .before .before .before .before) .0) .4))
+
+entries-requires : tie.Need-entries-requires
+entries-requires c κs = found (c .before .before .before .before .before .before .before .before .before .before) .1
+
 returns : tie.Need-returns
-unfolding readCommand
 returns c =
     let s = now (c .before .before .before .before .before .args .s) in
-    ap (commandByValue s) (areas-refused (castCommand dispatch commandCodes s) (commandEntries s) (learnt saidAreas (c .before .e .given .1) (c .before .before .before .cast-areas .ensures)))
+    ap (commandByValue s) (not-divided (readCommand dispatch commandCodes s) (learnt saidAreas (c .before .e .given .1) (c .before .before .before .divide .ensures)))
 
 returns-2 : tie.Need-returns-2
 unfolding readCommand
 returns-2 c =
-    let s = now (c .before .before .before .before .before .before .before .before .before .before .args .s) in
-    ap (commandByValue s) (walk-refused (castCommand dispatch commandCodes s) (commandEntries s) (learnt saidAreas (c .before .before .before .before .before .before .a .given .1) (c .before .before .before .before .before .before .before .before .cast-areas .ensures)) (learnt saidWalked (c .before .e2 .given .1) (c .before .before .before .walk .ensures)))
-
-returns-3 : tie.Need-returns-3
-unfolding readCommand
-returns-3 c =
-    let s = now (c .before .before .before .before .before .before .before .before .before .before .before .before .before .before .before .before .before .before .args .s) in
-    let ten = cast-fits dispatch commandCodes (now (c .before .before .before .before .before .before .before .before .before .before .before .before .before .before .before .before .before .before .args .s)) (learnt saidAreas (c .before .before .before .before .before .before .before .before .before .before .before .before .before .before .a .given .1) (c .before .before .before .before .before .before .before .before .before .before .before .before .before .before .before .before .cast-areas .ensures)) .0 in
-    let read = walk-read (castCommand dispatch commandCodes s) (commandEntries s) (learnt saidAreas (c .before .before .before .before .before .before .before .before .before .before .before .before .before .before .a .given .1) (c .before .before .before .before .before .before .before .before .before .before .before .before .before .before .before .before .cast-areas .ensures)) (learnt saidWalked (c .before .before .before .before .before .before .before .before .before .entries .given .1) (c .before .before .before .before .before .before .before .before .before .before .before .walk .ensures)) in
-    by-value commandOf s _ (read .2) (c .before .before .before .before .before .be16 .ensures ∙ tag-bytes s ten) (c .be32 .ensures ∙ code-bytes s ten) (read .1)
+    let d = c .before .before .before .before .before .before .before .before .before .before .before in
+    let s = now (d .before .before .before .before .args .s) in
+    let read = walk-read (castCommand dispatch commandCodes s) (commandEntries s) (found d .0) (c .entries .ensures) in
+    by-value commandOf s _ (read .2) (c .before .before .before .before .before .before .before .be16 .ensures ∙ tag-bytes s (header-there d)) (c .before .before .be32 .ensures ∙ code-bytes s (header-there d)) (read .1)
 
 pub parts-spec : {M : Type 1} → statement M
 parts-spec =
     tie.close
     (tie.spec
-    cast-areas-requires
+    divide-requires
     enum-known-e
     enum-known-a
-    slice-aggregate-walk
-    walk-requires
-    enum-known-e-2
-    enum-known-entries
     shared-slice-read-be16
     shared-slice-read-be16-2
     be16-requires
@@ -99,6 +95,7 @@ parts-spec =
     shared-slice-read-be32-3
     shared-slice-read-be32-4
     be32-requires
+    slice-aggregate-entries
+    entries-requires
     returns
-    returns-2
-    returns-3)
+    returns-2)

@@ -1,18 +1,19 @@
--- `frame::walk::signed` meets its contract: each return is the case of the definition to which its tests lead, and a TPM2B that was read
--- stands within the bytes, so no place behind it is too large.
+-- `frame::walk::behind_signed` meets its contract: each return is the case of the definition to which its tests lead, and a TPM2B that was
+-- read stands within the bytes, so no place behind it is too large.
 -- Assumes nothing.
-use mathlib.Core.Path.{sym}
+use mathlib.Core.Path.{sym, ap}
 use Prim.Native.Nat.{_+_, _≤_}
 use native.Mathlib.Omega.{arith}
 use lib.ListN.{length}
 use denote.Ref.{now}
 use Rattle.base.specs.Answer.{saidNumber16}
 use Rattle.base.proofs.Answers.{learnt}
+use Rattle.frame.specs.Answer.{behindOf}
 use Rattle.frame.proofs.EntryLaws.{tpm2b-fits}
 use Rattle.frame.proofs.Walks.{nonce-refused, attributes-refused, hmac-refused, signed-read}
 use borrow.Author.Needs.{needs}
-use Rattle.frame.proofs.walk.signed.Statement.{statement}
-use Rattle.frame.proofs.walk.signed.Tie as tie
+use Rattle.frame.proofs.walk.behind_signed.Statement.{statement}
+use Rattle.frame.proofs.walk.behind_signed.Tie as tie
 
 tpm2b-requires : tie.Need-tpm2b-requires
 tpm2b-requires c κs = search needs
@@ -39,7 +40,7 @@ add-at-2 : tie.Need-add-at-2
 add-at-2 c = let inside = nonce-inside c in omega arith
 
 returns : tie.Need-returns
-returns c = attributes-refused _ _ _ (learnt saidNumber16 (c .before .before .nonce .given .1) (c .before .before .before .before .tpm2b .ensures)) (c .if1 .taken)
+returns c = ap behindOf (attributes-refused 0 _ _ (learnt saidNumber16 (c .before .before .nonce .given .1) (c .before .before .before .before .tpm2b .ensures)) (c .if1 .taken))
 
 add-tpm2b : tie.Need-add-tpm2b
 add-tpm2b c = search needs
@@ -53,26 +54,33 @@ enum-known-e-2 c = search needs
 enum-known-hmac : tie.Need-enum-known-hmac
 enum-known-hmac c = search needs
 
-add-t17 : tie.Need-add-t17
-add-t17 c = search needs
+add-t16 : tie.Need-add-t16
+add-t16 c = search needs
 
-shared-slice-read-t20 : tie.Need-shared-slice-read-t20
-shared-slice-read-t20 c = search needs
+cast-t17 : tie.Need-cast-t17
+cast-t17 c = search needs
 
-add-t21 : tie.Need-add-t21
-add-t21 c = search needs
+add-t18 : tie.Need-add-t18
+add-t18 c =
+    let asked = c .before .before .before .before in
+    let inside = tpm2b-fits _ _ (sym (learnt saidNumber16 (c .before .hmac .given .1) (c .before .before .before .tpm2b2 .ensures))) .1 in
+    omega arith
 
 returns-2 : tie.Need-returns-2
-returns-2 c = nonce-refused _ _ _ (learnt saidNumber16 (c .before .e .given .1) (c .before .before .before .tpm2b .ensures))
+returns-2 c = ap behindOf (nonce-refused 0 _ _ (learnt saidNumber16 (c .before .e .given .1) (c .before .before .before .tpm2b .ensures)))
 
 returns-3 : tie.Need-returns-3
-returns-3 c = hmac-refused _ _ _ (learnt saidNumber16 (c .before .before .before .before .before .before .nonce .given .1) (c .before .before .before .before .before .before .before .before .tpm2b .ensures)) (c .before .before .before .before .if1 .left) (learnt saidNumber16 (c .before .e2 .given .1) (c .before .before .before .tpm2b2 .ensures))
+returns-3 c =
+    let asked = c .before .before .before .before in
+    ap behindOf (hmac-refused 0 _ _ (learnt saidNumber16 (asked .before .before .nonce .given .1) (asked .before .before .before .before .tpm2b .ensures)) (asked .if1 .left) (learnt saidNumber16 (c .before .e2 .given .1) (c .before .before .before .tpm2b2 .ensures)))
 
 returns-4 : tie.Need-returns-4
-returns-4 c = signed-read _ _ _ (learnt saidNumber16 (c .before .before .before .before .before .before .before .nonce .given .1) (c .before .before .before .before .before .before .before .before .before .tpm2b .ensures)) (c .before .before .before .before .before .if1 .left) (learnt saidNumber16 (c .before .before .hmac .given .1) (c .before .before .before .before .tpm2b2 .ensures))
+returns-4 c =
+    let asked = c .before .before .before .before in
+    ap behindOf (signed-read 0 _ _ (learnt saidNumber16 (asked .before .before .nonce .given .1) (asked .before .before .before .before .tpm2b .ensures)) (asked .if1 .left) (learnt saidNumber16 (c .before .hmac .given .1) (c .before .before .before .tpm2b2 .ensures)))
 
-pub signed-spec : {M : Type 1} → statement M
-signed-spec =
+pub behind-signed-spec : {M : Type 1} → statement M
+behind-signed-spec =
     tie.close
     (tie.spec
     tpm2b-requires
@@ -86,9 +94,9 @@ signed-spec =
     tpm2b-requires-2
     enum-known-e-2
     enum-known-hmac
-    add-t17
-    shared-slice-read-t20
-    add-t21
+    add-t16
+    cast-t17
+    add-t18
     returns-2
     returns-3
     returns-4)
