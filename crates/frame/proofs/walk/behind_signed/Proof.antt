@@ -61,10 +61,7 @@ cast-t17 : tie.Need-cast-t17
 cast-t17 c = search needs
 
 add-t18 : tie.Need-add-t18
-add-t18 c =
-    let asked = c .before .before .before .before in
-    let inside = tpm2b-fits _ _ (sym (learnt saidNumber16 (c .before .hmac .given .1) (c .before .before .before .tpm2b2 .ensures))) .1 in
-    omega arith
+add-t18 c = search needs
 
 returns-2 : tie.Need-returns-2
 returns-2 c = ap behindOf (nonce-refused 0 _ _ (learnt saidNumber16 (c .before .e .given .1) (c .before .before .before .tpm2b .ensures)))
