@@ -48,7 +48,7 @@ pub static ROWS: &[Row] = &[
     Row { name: "command validate, 2 entries", run: |side, n| frames::command_validate(side, n, &frames::made(2, 0)) },
     Row { name: "command validate, 3 entries", run: |side, n| frames::command_validate(side, n, &frames::made(3, 0)) },
     Row {
-        name: "the same, 3,000 parameter bytes",
+        name: "command validate, 3,000 bytes",
         run: |side, n| frames::command_validate(side, n, &frames::made(3, 3000)),
     },
     Row { name: "response validate, 1 entry", run: |side, n| frames::response_validate(side, n, &frames::made(1, 0)) },
@@ -61,7 +61,7 @@ pub static ROWS: &[Row] = &[
         run: |side, n| frames::response_validate(side, n, &frames::made(3, 0)),
     },
     Row {
-        name: "the same with 3,000 parameter bytes",
+        name: "response validate, 3,000 bytes",
         run: |side, n| frames::response_validate(side, n, &frames::made(3, 3000)),
     },
     Row { name: "command write, no session", run: |side, n| writers::command(side, n, &frames::made(0, 8)) },

@@ -172,8 +172,14 @@ impl Tally {
 
     /// Counts a mismatch that shows in the calls as a whole and in none of them alone, as one of the first judge's.
     pub fn differs_in_all(&mut self, how: &str) {
+        self.differs_from(self.voices[0].judge, how);
+    }
+
+    /// Counts a mismatch of a call that no case holds, as one of a judge's.
+    pub fn differs_from(&mut self, judge: &str, how: &str) {
         self.mismatches += 1;
-        self.voices[0].against += 1;
+        let voice = self.voices.iter_mut().find(|voice| voice.judge == judge);
+        voice.expect("the judge is asked about this call").against += 1;
         println!("mismatch: {}: {how}", self.name);
     }
 

@@ -2,7 +2,7 @@
 
 use crate::answer::{Hex, Said};
 use crate::calls::Out;
-use crate::judge::Tally;
+use crate::judge::{CRATE, RULES, Tally};
 
 /// What a call with so much room came to: the number, the numbers behind it, and the room as it is then.
 pub fn came_to(room: usize, write: impl FnOnce(&mut [u8], &mut Out) -> u32) -> String {
@@ -14,10 +14,10 @@ pub fn came_to(room: usize, write: impl FnOnce(&mut [u8], &mut Out) -> u32) -> S
 
 /// A difference by its name in docs/DIFFERENCES.md: what the crate's call and ours came to, each held to what is listed.
 pub fn difference(tally: &mut Tally, suite: &str, name: &str, theirs: (String, &str), ours: (String, &str)) {
-    println!("{suite}: {name}: tpm2-protocol: {}; here: {}", theirs.0, ours.0);
-    for (who, (now, listed)) in [("tpm2-protocol", theirs), ("here", ours)] {
+    println!("{suite}: {name}: {CRATE}: {}; here: {}", theirs.0, ours.0);
+    for (who, judge, (now, listed)) in [(CRATE, CRATE, theirs), ("here", RULES, ours)] {
         if now != listed {
-            tally.differs_in_all(&format!("{name}, {who}: {now}, and listed is {listed}"));
+            tally.differs_from(judge, &format!("{name}, {who}: {now}, and listed is {listed}"));
         }
     }
 }

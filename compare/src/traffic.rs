@@ -49,6 +49,7 @@ fn folder() -> PathBuf {
 pub fn run() -> Vec<Tally> {
     let folder = folder();
     if !folder.is_dir() {
+        assert!(std::env::var_os("SKEIN_TRAFFIC").is_none(), "SKEIN_TRAFFIC names no folder: {}", folder.display());
         println!("traffic: skipped, since there is no {} (SKEIN_TRAFFIC can name another)", folder.display());
         return Vec::new();
     }
@@ -86,6 +87,7 @@ fn texts(folder: &Path) -> Vec<PathBuf> {
     let paths = entries.map(|entry| entry.expect("a file has a name").path());
     let mut texts: Vec<PathBuf> = paths.filter(|path| path.extension().is_some_and(|end| end == "txt")).collect();
     texts.sort();
+    assert!(!texts.is_empty(), "there is no trace in {}", folder.display());
     texts
 }
 

@@ -149,8 +149,8 @@ fn by_document(case: &Write, answer: &mut Answer) -> bool {
 #[cfg(oracle)]
 fn by_crate(case: &Write, answer: &mut Answer) -> bool {
     case.try_write(answer, |given, room, out| match case.kind {
-        Kind::Command => limit::command_write(case.number as u16, case.cc, given, room, out),
-        Kind::Response => limit::response_write(case.number, case.cc, given, room, out),
+        Kind::Command => limit::command_write(case.number as u16, case.cc, given, case.needed(), room, out),
+        Kind::Response => limit::response_write(case.number, case.cc, given, case.needed(), room, out),
     })
 }
 

@@ -22,6 +22,7 @@ pub fn check(desks: &mut Desks, file: &Path) {
             desks.read.tally(call).differs_in_all(&format!("{hex}: '{ours}', and published is '{result}'"));
         }
     }
+    assert!(held > 0, "there is no frame in {}", file.display());
     println!("traffic: {held} published frames, each held to its published result, {differ} differ");
 }
 

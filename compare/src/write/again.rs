@@ -6,6 +6,7 @@ use super::{Desk, Kind};
 use crate::answer::Hex;
 use crate::calls::{self, Frame, Handed, Span};
 use crate::frame::make::{self, PLAIN, SESSIONS};
+use crate::judge::RULES;
 
 pub struct Again {
     /// Where the calls are held to the judges.
@@ -26,19 +27,29 @@ impl Again {
         Self { desk: Desk::new(), counts: [Count::default(); 2] }
     }
 
-    /// Nothing where the frame does not pass.
-    pub fn command(&mut self, s: &[u8]) {
+    /// Tells whether the frame passes; where it does not, there is nothing to write.
+    pub fn command(&mut self, s: &[u8]) -> bool {
         let parts = calls::command_parts(s, &mut [0; 8]);
         if parts.refusal == 0 {
             self.check(Kind::Command, parts.frame.tag.into(), parts.frame.code, &parts.frame, s);
         }
+        parts.refusal == 0
     }
 
     /// The same of a response to the command of a code.
-    pub fn response(&mut self, cc: u32, s: &[u8]) {
+    pub fn response(&mut self, cc: u32, s: &[u8]) -> bool {
         let parts = calls::response_parts(cc, s, &mut [0; 8]);
         if parts.refusal == 0 {
             self.check(Kind::Response, parts.frame.code, cc, &parts.frame, s);
+        }
+        parts.refusal == 0
+    }
+
+    /// The same of a frame that has to pass.
+    pub fn passing(&mut self, kind: Kind, cc: u32, s: &[u8]) {
+        let passes = if kind == Kind::Command { self.command(s) } else { self.response(cc, s) };
+        if !passes {
+            self.desk.tally(kind).differs_from(RULES, &format!("{} does not pass, and was made to", Hex(s)));
         }
     }
 
@@ -70,7 +81,7 @@ impl Again {
             (false, _) => {
                 count.differ += 1;
                 let how = format!("{} is written again as {}, with the number {said}", Hex(s), Hex(&room));
-                self.desk.tally(kind).differs_in_all(&how);
+                self.desk.tally(kind).differs_from(RULES, &how);
             }
         }
     }

@@ -4,6 +4,7 @@
 use super::oracle::{Body, plain_command};
 use super::{Desk, Kind, without_sessions};
 use crate::calls;
+use crate::judge::CRATE;
 use crate::shown::{came_to, difference};
 use tpm2_protocol::data::TpmCc;
 use tpm2_protocol::frame::{TpmFrame, TpmMarshalBody};
@@ -81,6 +82,6 @@ fn sum_too_large(desk: &mut Desk) {
     let listed = "7(0,10), room eeeeeeeeeeeeeeeeeeee";
     println!("write: D6: tpm2-protocol: {theirs}; here no slices are that long");
     if theirs != listed {
-        desk.tally(Kind::Command).differs_in_all(&format!("D6, tpm2-protocol: {theirs}, and listed is {listed}"));
+        desk.tally(Kind::Command).differs_from(CRATE, &format!("D6, {CRATE}: {theirs}, and listed is {listed}"));
     }
 }

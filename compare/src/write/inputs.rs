@@ -21,6 +21,7 @@ pub fn each(desk: &mut Desk, random: &mut Random, thin: bool) {
         codes(desk, &pool, random);
         response_codes(desk, &pool, random, thin);
         rows(desk, &pool, random, thin);
+        parameters(desk, &pool, random);
         made_frames(desk, random);
         fields::each(desk, &pool, random, thin);
         mixed::each(desk, &pool, random, rounds(thin));
@@ -173,6 +174,19 @@ fn rows(desk: &mut Desk, pool: &Pool, random: &mut Random, thin: bool) {
     }
 }
 
+/// Parameters around each byte of their size, and around what is copied at once.
+fn parameters(desk: &mut Desk, pool: &Pool, random: &mut Random) {
+    let row = known::row(0x131).expect("a row");
+    let lengths = edges::near(&[256, 4_096, 65_536]).into_iter().chain([70_000, 300_000]);
+    for (len, kind) in lengths.flat_map(|len| Kind::ALL.map(|kind| (len, kind))) {
+        for count in 0..=3 {
+            good(desk, kind, &row, (count, [20, 32]), pool, random);
+            pool.fill(&mut desk.case.parameters, len, random);
+            in_rooms(desk);
+        }
+    }
+}
+
 /// Frames of every row, with each number of entries and without an area, written again from their parts; and a bare
 /// error.
 fn made_frames(desk: &mut Desk, random: &mut Random) {
@@ -185,11 +199,11 @@ fn made_frames(desk: &mut Desk, random: &mut Random) {
                     let make = if command { make::command } else { make::response };
                     make(&row, count.map(|_| entries.as_slice()), &random.bytes(parameters), random)
                 });
-                again.command(&command);
-                again.response(row.code, &response);
+                again.passing(Kind::Command, row.code, &command);
+                again.passing(Kind::Response, row.code, &response);
             }
         }
-        again.response(row.code, &make::fields(make::PLAIN, 10, 0x101));
+        again.passing(Kind::Response, row.code, &make::fields(make::PLAIN, 10, 0x101));
     }
     again.tell("write");
     desk.merge(&again.desk);

@@ -3,6 +3,7 @@
 
 use super::{Desk, Kind, rules, without_sessions};
 use crate::calls::{self, Handed};
+use crate::judge::{CRATE, RULES};
 use crate::shown::came_to;
 
 /// The largest total.
@@ -25,9 +26,9 @@ pub fn check(desk: &mut Desk) {
             Kind::Command => rules::command_write(0x8001, 0x144, given, room, out),
             Kind::Response => rules::response_write(0, 0x144, given, room, out),
         });
-        for right in [Some(rules), by_crate(kind, given)].into_iter().flatten() {
-            if ours != right {
-                desk.tally(kind).differs_in_all(&format!("a total of {}: {ours}, not {right}", LARGEST + more));
+        for (judge, right) in [(RULES, Some(rules)), (CRATE, by_crate(kind, given))] {
+            if let Some(right) = right.filter(|right| *right != ours) {
+                desk.tally(kind).differs_from(judge, &format!("a total of {}: {ours}, not {right}", LARGEST + more));
             }
         }
     }

@@ -15,27 +15,29 @@ pub fn explained() -> u64 {
     EXPLAINED.load(Ordering::Relaxed)
 }
 
-pub fn command_write(tag: u16, cc: u32, given: Handed, room: &mut [u8], out: &mut Out) -> Option<u32> {
+/// `needed` is the room that the frame takes, if it passes.
+pub fn command_write(tag: u16, cc: u32, given: Handed, needed: usize, room: &mut [u8], out: &mut Out) -> Option<u32> {
     // what else is refused, a tag, is refused before the limit
-    limited(|room, out| oracle::command_write(tag, cc, given, room, out), &[0], &given, room, out)
+    limited(|room, out| oracle::command_write(tag, cc, given, room, out), &[0], (&given, needed), room, out)
 }
 
-pub fn response_write(rc: u32, cc: u32, given: Handed, room: &mut [u8], out: &mut Out) -> Option<u32> {
+pub fn response_write(rc: u32, cc: u32, given: Handed, needed: usize, room: &mut [u8], out: &mut Out) -> Option<u32> {
     // sessions with a code other than success are refused behind the limit
-    limited(|room, out| oracle::response_write(rc, cc, given, room, out), &[0, 3], &given, room, out)
+    limited(|room, out| oracle::response_write(rc, cc, given, room, out), &[0, 3], (&given, needed), room, out)
 }
 
 /// `behind` are the numbers that come behind the limit.
 fn limited(
     write: impl FnOnce(&mut [u8], &mut Out) -> Option<u32>,
     behind: &[u32],
-    given: &Handed,
+    (given, needed): (&Handed, usize),
     room: &mut [u8],
     out: &mut Out,
 ) -> Option<u32> {
     let count = given.sessions.count;
     if count <= 3 {
-        return write(room, out).filter(|&number| number != ROOM_SHORT);
+        let short = room.len() < needed;
+        return write(room, out).filter(|&number| !short || number != ROOM_SHORT);
     }
     // apart from the lent room, and long enough
     let mut apart = vec![0; SESSIONS_SIZE + given.handles.len() + given.parameters.len()];

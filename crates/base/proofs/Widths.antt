@@ -1,7 +1,7 @@
 -- What every width of field shares: each law is over the width w, and the proofs of the functions cite it.
 -- Assumes nothing.
 use mathlib.Core.Path.{_≡_, refl, sym, _∙_, ap}
-use mathlib.Core.List.{List, [], _∷_, _++_}
+use mathlib.Core.List.{List, [], _∷_}
 use Prim.Native.Nat.{ℕ, _+_, _-_, _≤_, _<_}
 use native.Mathlib.Omega.{arith}
 use borrow.Author.Tests.{le-leb, lt-leb}
@@ -9,7 +9,7 @@ use lib.ListN.{length, take, drop}
 use lib.Seq.{sets, take-at}
 use Rattle.base.specs.Bytes.{number, bytes}
 use Rattle.base.specs.Said.{gives, refuses, done, after}
-use Rattle.base.specs.Field.{readField, writeField, writeBytes}
+use Rattle.base.specs.Field.{readField, writeField, laid, writeBytes}
 use Rattle.base.proofs.Bytes.{length-bytes}
 use Rattle.base.proofs.Lists.{span, take-drop-span, stored}
 
@@ -45,15 +45,15 @@ module _ (place : ℕ) (t s : List ℕ) where
     simp (lt-leb (length t) (length s - place) (omega arith)),
   )
 
-  module _ (later : List ℕ) (e : later ≡ take place s ++ (t ++ drop (place + length t) s)) (h : length t ≤ length s - place) where
+  module _ (later : List ℕ) (e : later ≡ laid place t s) (h : length t ≤ length s - place) where
     pub bytes-whole : (gives tt ≡ done (writeBytes place t s)) × (later ≡ after s (writeBytes place t s))
     bytes-whole = (simp (le-leb (length t) (length s - place) h), simp (le-leb (length t) (length s - place) h) e)
 
   -- where there is room for them, they are put there
   pub bytes-put : {later : List ℕ} → length t ≤ length s - place → later ≡ after s (writeBytes place t s)
-      → later ≡ take place s ++ (t ++ drop (place + length t) s)
+      → later ≡ laid place t s
   bytes-put h e = rw (le-leb (length t) (length s - place) h) at e
 
 -- bytes that were put at the start of others are found there
-pub through : (t s : List ℕ) {later : List ℕ} → later ≡ take 0 s ++ (t ++ drop (0 + length t) s) → take (length t) later ≡ t
+pub through : (t s : List ℕ) {later : List ℕ} → later ≡ laid 0 t s → take (length t) later ≡ t
 through t s e = ap (take (length t)) e ∙ take-at t (drop (0 + length t) s) (length t) refl

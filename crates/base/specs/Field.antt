@@ -18,8 +18,11 @@ writeField w place n s =
     needs (leb w (length s - place)) (9 ∷ place ∷ w ∷ (length s - place) ∷ [])
     (gives (take place s ++ (bytes w n ++ drop (place + w) s)))
 
--- the same of any bytes, put at a place of others, which stay around it
+-- some bytes at a place of others, which stay around it
+abbrev pub laid : ℕ → List ℕ → List ℕ → List ℕ
+laid place t s = take place s ++ (t ++ drop (place + length t) s)
+
 abbrev pub writeBytes : ℕ → List ℕ → List ℕ → Said (List ℕ)
 writeBytes place t s =
     needs (leb (length t) (length s - place)) (9 ∷ place ∷ length t ∷ (length s - place) ∷ [])
-    (gives (take place s ++ (t ++ drop (place + length t) s)))
+    (gives (laid place t s))

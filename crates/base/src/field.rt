@@ -1,13 +1,13 @@
 // Big-endian fields of 16 and 32 bits, read from and written to a place of a lent slice, and bytes copied to one. Every
 // slice and every place is taken: where the bytes are not there, the answer is the refusal and nothing is touched.
 ghost use mathlib.Core.Path.{_≡_};
-ghost use mathlib.Core.List.{[], _∷_, _++_};
-ghost use Prim.Native.Nat.{_+_, _-_, _≤_};
-ghost use lib.ListN.{length, take, drop};
+ghost use mathlib.Core.List.{[], _∷_};
+ghost use Prim.Native.Nat.{_-_, _≤_};
+ghost use lib.ListN.{length};
 ghost use Rattle.base.specs.Bytes.{number};
 ghost use Rattle.base.specs.Said.{after, done};
 ghost use Rattle.base.specs.Answer.{saidNumber16, saidNumber32, saidOutcome};
-ghost use Rattle.base.specs.Field.{readField, writeBytes, writeField};
+ghost use Rattle.base.specs.Field.{laid, readField, writeBytes, writeField};
 use crate::answer::Number16;
 use crate::answer::Number32;
 use crate::answer::Outcome;
@@ -104,7 +104,7 @@ const BLOCK: usize = 4096;
 // Copies all of t to a place of s, byte by byte.
 fn lay(s: &mut [u8], place: usize, t: &[u8])
     requires { ⌜ length (now t) ≤ length (now s) - place ⌝ }
-    ensures { λ _. ⌜ now (s .exit) ≡ take place (now (s .entry)) ++ (now (t .entry) ++ drop (place + length (now (t .entry))) (now (s .entry))) ⌝ }
+    ensures { λ _. ⌜ now (s .exit) ≡ laid place (now (t .entry)) (now (s .entry)) ⌝ }
 {
     let mut i = 0;
     while i < t.len() {

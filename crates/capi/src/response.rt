@@ -65,7 +65,7 @@ pub extern "C" fn skein_response_body(s: &[u8], out: &mut Numbers) -> u32
     out::range(frame::response::body_range(s), out)
 }
 
-// All parts of a response to the command of a code, as of a command.
+// All parts of a response to the command cc, by value as of a command.
 #[repr(C)]
 pub struct ResponseParts {
     pub refusal: u32,
@@ -103,7 +103,7 @@ pub extern "C" fn skein_response_parts(cc: u32, s: &[u8], out: &mut Numbers) -> 
     }
 }
 
-// Writes a response of a code to the command of another, as a command is written.
+// Writes a response to the command cc, with the response code rc.
 #[no_mangle]
 pub extern "C" fn skein_response_write(
     rc: u32,

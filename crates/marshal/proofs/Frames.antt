@@ -16,7 +16,8 @@ use Rattle.frame.specs.Layout.{Entry, layoutEntry, layoutEntries, sizeField, la
 use Rattle.frame.proofs.FrameLaws.{length-frame}
 use Rattle.frame.specs.Parts.{entriesOf}
 use Rattle.marshal.specs.Handed.{Handed, entriesHanded, withoutHandles, tagFor, commandFrame, successFrame, errorFrame}
-use Rattle.marshal.specs.Laid.{laid, Puts}
+use Rattle.base.specs.Field.{laid}
+use Rattle.marshal.specs.Laid.{Puts}
 use Rattle.marshal.specs.Write.{sessionsThere, totalSize}
 use Rattle.marshal.proofs.Lengths.{length-sessions}
 use Rattle.marshal.proofs.Rooms.{room-first, room-next, puts-next}

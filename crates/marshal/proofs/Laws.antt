@@ -1,7 +1,7 @@
 -- The last sentence of demand 3 at the port's own table: what a writer takes is a passing frame, and reading it gives the parts handed
 -- over; the parts read from a passing frame, written into enough room, give the same bytes, but under the sessions tag with no entry;
--- a writer refuses with 7 exactly where document 01 says; and a refused call leaves the room as it was. First of the definitions, then
--- of what callers are answered, with which frames are taken.
+-- a writer refuses with 7 exactly where document 01 says; and a refused call leaves the room as it was. First the laws of the
+-- definitions, then of what callers are answered; these also say which frames are taken.
 -- The laws themselves hold over any rows, and for commands over any list of known codes that has the rows' codes (CommandWriting,
 -- ResponseWriting, Taking, TooLarge).
 -- Assumes nothing.

@@ -10,10 +10,10 @@ use borrow.Author.Tests.{le-leb}
 use lib.ListN.{length, take, drop, set, length-append, length-drop, take-append-drop}
 use lib.Seq.{take-at, drop-drop, length-take-le, drop-append-add, set-split}
 use Rattle.base.specs.Bytes.{bytes}
-use Rattle.base.specs.Field.{writeField}
+use Rattle.base.specs.Field.{laid, writeField}
 use Rattle.base.specs.Said.{after}
 use Rattle.base.proofs.Bytes.{length-bytes}
-use Rattle.marshal.specs.Laid.{laid, Puts}
+use Rattle.marshal.specs.Laid.{Puts}
 
 -- nothing laid is nothing changed
 pub laid-none : (place : ℕ) (s : List ℕ) → laid place [] s ≡ s

@@ -1,5 +1,5 @@
--- Which frames the writers take, over any rows: those whose parts are well formed, with as many entries as sessions were counted, each
--- nonce and HMAC within the lent bytes, and room for the layout. What is taken is laid out.
+-- Which frames the writers take, over any rows: those whose parts are well formed (and a command under the sessions tag has an entry), with
+-- as many entries as sessions were counted, each nonce and HMAC within the lent bytes, and room for the layout. What is taken is laid out.
 -- Assumes nothing.
 use mathlib.Core.Path.{_≡_, refl, sym, _∙_, ap}
 use mathlib.Core.Bool.{Bool, true, false, cond, false≢true}

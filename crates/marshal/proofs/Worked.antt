@@ -113,7 +113,7 @@ pub starred : answers rows ≡ results rows
 unfolding bytes number dispatch tags tagOf sizeOf codeOf readCc readRc framePrefix frameWhole readFrameTag handleArea sizedArea commandHandles commandAreas judgeCommand castCommand readCommand judgeResponse castResponse errorAreas successAreas responseAreas readResponse readTpm2b readSigned readEntry walk readCode readFmt1 readFmt0 readIndex isKnown knownCodes layoutCommand layoutResponse sessionsThere judged writeCommand writeSuccess writeError writeResponse
 starred = refl
 
--- ---- the order of checks: in each row all that is judged later would be refused too
+-- ---- the order of checks: in each row all that is judged later and can be refused beside it would be; 7 has laws of its own (TooLarge)
 
 -- a nonce and an HMAC by position and length
 abbrev pub session : ℕ → ℕ → ℕ → ℕ → Session

@@ -22,7 +22,7 @@ use Rattle.frame.proofs.FrameLaws.{of-the-two, length-frame}
 use Rattle.frame.specs.Parts.{entriesOf}
 use Rattle.marshal.specs.Handed.{Handed, tagFor, commandFrame, successFrame, errorFrame}
 use Rattle.marshal.specs.Write.{sessionsThere, totalSize, fitted, judged, writeCommand, writeSuccess, writeError, writeResponse, counted, roomAfter, Ready}
-use Rattle.marshal.specs.Laid.{laid}
+use Rattle.base.specs.Field.{laid}
 use Rattle.marshal.proofs.Frames.{length-command, length-success}
 use Rattle.marshal.proofs.Rooms.{laid-start}
 

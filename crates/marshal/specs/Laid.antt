@@ -3,13 +3,10 @@
 use Prim.Native.Nat.{ℕ, _+_}
 use mathlib.Core.List.{List, _∷_, _++_}
 use mathlib.Core.Path.{_≡_}
-use lib.ListN.{length, take, drop}
+use lib.ListN.{length}
+use Rattle.base.specs.Field.{laid}
 use Rattle.base.specs.Tpm2b.{tpm2b}
 use Rattle.frame.specs.Layout.{Entry}
-
--- some bytes at a place of others, which stay around it
-abbrev pub laid : ℕ → List ℕ → List ℕ → List ℕ
-laid place t s = take place s ++ (t ++ drop (place + length t) s)
 
 -- a call that puts t at a place of s, which is then as later, and answers the place behind it
 pub record Puts (place : ℕ) (t s : List ℕ) (next : ℕ) (later : List ℕ) : Type 0 where

@@ -5,7 +5,7 @@ ghost use Rattle.base.specs.Answer.{saidCount};
 ghost use Rattle.table.specs.Dispatch.{dispatch};
 ghost use Rattle.frame.specs.Layout.{layoutCommand};
 ghost use Rattle.marshal.specs.Handed.{commandFrame, handed};
-ghost use Rattle.marshal.specs.Laid.{laid};
+ghost use Rattle.base.specs.Field.{laid};
 ghost use Rattle.marshal.specs.Write.{Ready, counted, roomAfter, writeCommand};
 use crate::put::put;
 use crate::put::put_entries;

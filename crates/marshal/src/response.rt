@@ -8,7 +8,7 @@ ghost use Rattle.rc.specs.Code.{readCode};
 ghost use Rattle.table.specs.Dispatch.{dispatch};
 ghost use Rattle.frame.specs.Layout.{layoutResponse};
 ghost use Rattle.marshal.specs.Handed.{handed, successFrame, tagFor};
-ghost use Rattle.marshal.specs.Laid.{laid};
+ghost use Rattle.base.specs.Field.{laid};
 ghost use Rattle.marshal.specs.Write.{Ready, counted, roomAfter, writeError, writeResponse};
 use crate::put::put;
 use crate::put::put_entries;

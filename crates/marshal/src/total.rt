@@ -144,7 +144,8 @@ pub(crate) fn fits(total: usize, room: usize) -> Count
     Count::Is(total)
 }
 
-// What both writers judge, from the handles on: so many handle bytes, entries as they were found, so many parameter bytes.
+// What both writers judge, from the handles on: so many handle bytes, entries as they were found, so many parameter bytes. Three entries
+// have at most 393,237 bytes: each a handle, two lengths, an attribute byte and twice 65,535.
 pub(crate) fn judge(
     tag: u16,
     count: u8,

@@ -7,15 +7,7 @@ use crate::told::wrote;
 
 // The call of that name, on the bytes and the first number of the line: a tag or a code, where one is asked for.
 pub(crate) fn call(name: &[u8], bytes: &mut [u8], number: usize, out: &mut [u64; 8]) -> Told {
-    let told = header(name, bytes, out);
-    if told.known {
-        return told;
-    }
-    let told = command(name, bytes, out);
-    if told.known {
-        return told;
-    }
-    let told = response(name, bytes, out);
+    let told = read_frame(name, bytes, out);
     if told.known {
         return told;
     }
@@ -24,13 +16,30 @@ pub(crate) fn call(name: &[u8], bytes: &mut [u8], number: usize, out: &mut [u64;
         return told;
     }
     let told = response_part(name, bytes);
+    if told.known || number > 4294967295 {
+        return told;
+    }
+    numbered(name, bytes, number as u32, out)
+}
+
+fn read_frame(name: &[u8], bytes: &[u8], out: &mut [u64; 8]) -> Told {
+    let told = header(name, bytes, out);
     if told.known {
         return told;
     }
-    if number > 4294967295 {
-        return unknown();
+    let told = command(name, bytes, out);
+    if told.known {
+        return told;
     }
-    let told = with_code(name, bytes, number as u32, out);
+    response(name, bytes, out)
+}
+
+fn numbered(name: &[u8], bytes: &mut [u8], number: u32, out: &mut [u64; 8]) -> Told {
+    let told = read_with_code(name, bytes, number, out);
+    if told.known {
+        return told;
+    }
+    let told = write_code(name, bytes, number, out);
     if told.known || number > 65535 {
         return told;
     }
@@ -47,7 +56,7 @@ fn with_tag(name: &[u8], bytes: &mut [u8], tag: u16, out: &mut [u64; 8]) -> Told
     unknown()
 }
 
-fn with_code(name: &[u8], bytes: &mut [u8], code: u32, out: &mut [u64; 8]) -> Told {
+fn read_with_code(name: &[u8], bytes: &[u8], code: u32, out: &mut [u64; 8]) -> Told {
     if check::same(name, b"rc_read") {
         return read(4, capi::code::skein_rc_read(code, out));
     }
@@ -57,14 +66,18 @@ fn with_code(name: &[u8], bytes: &mut [u8], code: u32, out: &mut [u64; 8]) -> To
     if check::same(name, b"table_known") {
         return read(1, capi::dispatch::skein_table_known(code, out));
     }
+    if check::same(name, b"response_validate") {
+        return read(0, capi::response::skein_response_validate(code, bytes, out));
+    }
+    unknown()
+}
+
+fn write_code(name: &[u8], bytes: &mut [u8], code: u32, out: &mut [u64; 8]) -> Told {
     if check::same(name, b"command_set_cc") {
         return wrote(0, capi::command::skein_command_set_cc(bytes, code, out));
     }
     if check::same(name, b"response_set_rc") {
         return wrote(0, capi::response::skein_response_set_rc(bytes, code, out));
-    }
-    if check::same(name, b"response_validate") {
-        return read(0, capi::response::skein_response_validate(code, bytes, out));
     }
     unknown()
 }

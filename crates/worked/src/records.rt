@@ -16,7 +16,7 @@ pub(crate) fn answered(name: &[u8], bytes: &mut [u8], first: usize, second: usiz
         command_parts(bytes);
         return true;
     }
-    if check::same(name, b"command_again") {
+    if check::same(name, b"command_again") && first <= bytes.len() {
         command_again(bytes, first);
         return true;
     }
@@ -27,7 +27,7 @@ pub(crate) fn answered(name: &[u8], bytes: &mut [u8], first: usize, second: usiz
         response_parts(first as u32, bytes);
         return true;
     }
-    if check::same(name, b"response_again") {
+    if check::same(name, b"response_again") && second <= bytes.len() {
         response_again(first as u32, bytes, second);
         return true;
     }

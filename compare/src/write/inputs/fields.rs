@@ -8,14 +8,14 @@ use crate::random::Random;
 use crate::write::Desk;
 
 /// Up to the largest capacity of the crate's, past it, and up to the largest length.
-const LENGTHS: [usize; 10] = [0, 1, 2, 63, 64, 65, 256, 1_000, 4_097, 65_535];
+const LENGTHS: [usize; 12] = [0, 1, 2, 63, 64, 65, 256, 1_000, 4_095, 4_096, 4_097, 65_535];
 
 pub fn each(desk: &mut Desk, pool: &Pool, random: &mut Random, thin: bool) {
     lengths(desk, pool, random, thin);
     places(desk, pool, random, thin);
 }
 
-/// One field of the six, or all of them.
+/// One field of the six.
 fn field(desk: &mut Desk, which: usize) -> &mut Field {
     let session = &mut desk.case.sessions.three[which / 2];
     if which % 2 == 0 { &mut session.nonce } else { &mut session.hmac }

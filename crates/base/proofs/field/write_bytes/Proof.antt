@@ -1,11 +1,12 @@
 -- `base::field::write_bytes` meets its contract. The test on what is left decides as the definition does; what comes through the array is t.
 -- Assumes nothing.
-use Prim.Native.Nat.{ℕ, _+_}
+use Prim.Native.Nat.{ℕ}
 use mathlib.Core.Path.{sym, ap, _∙_}
-use mathlib.Core.List.{List, _++_}
+use mathlib.Core.List.{List}
 use native.Mathlib.Omega.{arith}
-use lib.ListN.{length, take, drop}
+use lib.ListN.{length}
 use denote.Ref.{now}
+use Rattle.base.specs.Field.{laid}
 use Rattle.base.proofs.Widths.{bytes-short, bytes-whole, through}
 use borrow.Author.Needs.{needs}
 use Rattle.base.proofs.field.write_bytes.Statement.{statement}
@@ -58,7 +59,7 @@ returns-3 c =
     let a = c .before .before .before .before .before .before .before .before .before .before .before .before .before .args in
     let same = through (now (a .t)) _ (c .before .before .before .before .before .before .lay2 .ensures) in
     bytes-whole (a .place) (now (a .t)) (now (a .s)) _
-    (c .before .before .lay3 .ensures ∙ ap (λ (u : List ℕ). take (a .place) (now (a .s)) ++ (u ++ drop (a .place + length u) (now (a .s)))) same) (omega arith)
+    (c .before .before .lay3 .ensures ∙ ap (λ (u : List ℕ). laid (a .place) u (now (a .s))) same) (omega arith)
 
 pub write-bytes-spec : {M : Type 1} → statement M
 write-bytes-spec =

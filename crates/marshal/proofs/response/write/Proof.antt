@@ -9,7 +9,7 @@ use Rattle.base.specs.Answer.{saidCount}
 use Rattle.base.proofs.Answers.{learnt}
 use Rattle.table.specs.Dispatch.{dispatch}
 use Rattle.marshal.specs.Handed.{handed}
-use Rattle.marshal.specs.Laid.{laid}
+use Rattle.base.specs.Field.{laid}
 use Rattle.marshal.specs.Write.{writeResponse}
 use Rattle.marshal.proofs.Frames.{error-layout}
 use Rattle.marshal.proofs.Writers.{success-ready, error-ready, room-refused, room-written}

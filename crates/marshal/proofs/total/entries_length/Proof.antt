@@ -3,7 +3,6 @@
 use Rattle.frame.specs.Answer.{handleWidth}
 use Rattle.marshal.proofs.Judgements.{no-more}
 use Rattle.marshal.proofs.Sessions.{entries-none}
-use borrow.Author.Needs.{needs}
 use Rattle.marshal.proofs.total.entries_length.Statement.{statement}
 use Rattle.marshal.proofs.total.entries_length.Tie as tie
 
