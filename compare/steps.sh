@@ -66,14 +66,21 @@ shadow_kit() { # SHADOW
     ln -s "$(dirname "$from")" "$(dirname "$to")/kit"
 }
 
+# Puts the calls of arm.ll into the library in DIR.
+add_arm_calls() { # DIR
+    "$1/kit/on/aarch64/toolchain/bin/kit/clang" --target=aarch64-unknown-linux-gnu -Wno-override-module \
+        -O3 -fPIE -c -x ir -o "$1/arm.o" "$compare/arm.ll" &&
+        ar r "$1/target/staticlib/libcapi.a" "$1/arm.o"
+}
+
 # Proves crate capi of the repository in DIR and writes DIR/target/staticlib/libcapi.a for this machine; DIR/build.log
 # has what was said. The kit writes libraries for x86-64 alone, and they cannot be linked on Arm. There the module that
 # the kit proved is compiled for Arm instead: what is compared is the same proved module, compiled for the machine at
-# hand. It stays in DIR, apart from the repository's own library for x86-64.
+# hand, with the calls of arm.ll beside it. It stays in DIR, apart from the repository's own library for x86-64.
 build_library() { # DIR
     case $(uname -m) in
     x86_64) (cd "$1" && rt staticlib capi) ;;
-    aarch64) shadow_kit "$1/kit" && (cd "$1" && RATTLE_HOME=$1/kit rt staticlib capi) ;;
+    aarch64) shadow_kit "$1/kit" && (cd "$1" && RATTLE_HOME=$1/kit rt staticlib capi) && add_arm_calls "$1" ;;
     *) echo "a library can be made for x86_64 and aarch64, not for $(uname -m)" && false ;;
     esac >"$1/build.log" 2>&1
 }

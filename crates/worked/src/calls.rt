@@ -8,6 +8,11 @@ use crate::told::filled;
 use crate::told::read;
 use crate::told::unknown;
 use crate::told::wrote;
+use base::answer::Outcome;
+use base::answer::Range;
+use base::error::TpmError;
+use base::field::write_bytes;
+use base::part::part;
 
 // The line, and its answer behind it.
 pub(crate) fn line(s: &[u8]) {
@@ -62,11 +67,33 @@ fn call(name: &[u8], bytes: &mut [u8], first: usize, second: usize, out: &mut [u
     if told.known {
         return told;
     }
-    let told = part(name, bytes, first);
+    let told = view_part(name, bytes, first);
     if told.known {
         return told;
     }
     frames::call(name, bytes, first, out)
+}
+
+// The copy of bytes, which has no call for C: so many of ff are put at the place.
+fn copied(bytes: &mut [u8], place: usize, count: usize, out: &mut [u64; 8]) -> Told {
+    let ones = [255u8; 64];
+    let given = part(&ones, Range::Is { from: 0, to: count });
+    match write_bytes(bytes, place, given) {
+        Outcome::Done => wrote(0, 0),
+        Outcome::Refused(e) => match e {
+            TpmError::BufferOverflow {
+                offset,
+                needed,
+                available,
+            } => {
+                out[0] = offset as u64;
+                out[1] = needed as u64;
+                out[2] = available as u64;
+                wrote(0, 9)
+            }
+            _ => unknown(),
+        },
+    }
 }
 
 fn field(name: &[u8], bytes: &mut [u8], place: usize, value: usize, out: &mut [u64; 8]) -> Told {
@@ -78,6 +105,9 @@ fn field(name: &[u8], bytes: &mut [u8], place: usize, value: usize, out: &mut [u
     }
     if value > 4294967295 {
         return unknown();
+    }
+    if check::same(name, b"write_bytes") {
+        return copied(bytes, place, value, out);
     }
     if check::same(name, b"write_u32") {
         return wrote(
@@ -132,7 +162,7 @@ fn view(name: &[u8], bytes: &[u8], capacity: usize, out: &mut [u64; 8]) -> Told 
 }
 
 // The parts of the view that can be written through.
-fn part(name: &[u8], bytes: &mut [u8], capacity: usize) -> Told {
+fn view_part(name: &[u8], bytes: &mut [u8], capacity: usize) -> Told {
     if check::same(name, b"cast_mut") {
         return filled(buffer::view::cast_mut(capacity, bytes));
     }
