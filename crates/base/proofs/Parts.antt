@@ -14,6 +14,7 @@ use Rattle.base.specs.declared.part.Span.{Span}
 use Rattle.base.specs.Answer.{Part}
 use Rattle.base.specs.Parts.{span, fits, placed, upTo, behind, heldAt, partIn, IsPart}
 use Rattle.base.specs.Said.{Said, gives, refuses}
+use Rattle.base.specs.Single.{SamePart}
 use Rattle.base.proofs.Lists.{take-rest}
 
 module _ {said : Said Part} {from to : ℕ} (len : ℕ) (e : gives (record { from = from; to = to }) ≡ said) where
@@ -53,6 +54,7 @@ as-told s e part = (
   part .2 ∙ ap (λ (x : Said Part). ptr s .1 + placed x (length (now s)) .from) e,
 )
 
--- two parts that a range tells stand at one place and hold the same
-pub part-once : (said : Said Part) (s x y : RefT (List ℕ)) → IsPart said s x → IsPart said s y → (ptr x ≡ ptr y) × (now x ≡ now y)
-part-once said s x y p q = (λ i. ((p .1 ∙ sym (q .1)) i, (p .2 ∙ sym (q .2)) i), p .0 ∙ sym (q .0))
+-- two parts that are told to be the same do stand at one place and hold the same
+pub same-part : {held : List ℕ} {block place : ℕ} (x y : RefT (List ℕ)) → (now x ≡ held) × (ptr x .0 ≡ block) × (ptr x .1 ≡ place)
+    → (now y ≡ held) × (ptr y .0 ≡ block) × (ptr y .1 ≡ place) → SamePart x y
+same-part x y p q = (λ i. ((p .1 ∙ sym (q .1)) i, (p .2 ∙ sym (q .2)) i), p .0 ∙ sym (q .0))

@@ -1,11 +1,10 @@
 -- Each public function of base leaves a single answer and a single later state of what was lent (specs/Single.antt).
 -- Assumes nothing.
 use mathlib.Core.Path.{refl, sym, _∙_}
-use Rattle.base.specs.Answer.{saidRange}
 use Rattle.base.specs.Single.{Single, SinglePart}
 use Rattle.base.proofs.Refusals.{numbered-injective}
 use Rattle.base.proofs.Answers.{saidNumber16-injective, saidNumber32-injective, saidOutcome-injective, saidRange-injective}
-use Rattle.base.proofs.Parts.{part-once}
+use Rattle.base.proofs.Parts.{same-part}
 use Rattle.base.proofs.code.TpmSt.refused.Kinds as TpmSt-refused-kinds
 use Rattle.base.proofs.code.TpmSt.refused.Reads as TpmSt-refused-reads
 use Rattle.base.proofs.code.TpmCc.refused.Kinds as TpmCc-refused-kinds
@@ -72,7 +71,7 @@ behind : Single 0 behind-kinds.ps behind-kinds.r behind-reads.Post
 behind κs a x y v w p q = (saidRange-injective x y (p ∙ sym q), refl)
 
 part : SinglePart 1 part-kinds.ps part-kinds.r (λ κs x. x) part-reads.Post
-part κs a x y v w p q = (part-once (saidRange (a .1 .0)) (a .0) x y p q, refl)
+part κs a x y v w p q = (same-part x y p q, refl)
 
 part-mut : SinglePart 1 part-mut-kinds.ps part-mut-kinds.r (λ κs x. x) part-mut-reads.Post
-part-mut κs a x y v w p q = (part-once (saidRange (a .1 .0)) (a .0) x y p q, refl)
+part-mut κs a x y v w p q = (same-part x y p q, refl)

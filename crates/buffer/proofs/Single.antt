@@ -1,19 +1,15 @@
 -- Each public function of buffer leaves a single answer and a single later state of what was lent (base, specs/Single.antt).
 -- Assumes nothing.
 use mathlib.Core.Path.{_≡_, refl, sym, _∙_}
-use lib.ListN.{length}
-use denote.Ref.{now}
 use Rattle.base.specs.Answer.{saidOutcome}
-use Rattle.base.specs.Parts.{upTo, behind}
 use Rattle.base.specs.Single.{Single, SinglePart}
 use Rattle.base.proofs.Answers.{saidCount-injective, saidFlag-injective, saidOutcome-injective, saidRange-injective}
-use Rattle.base.proofs.Parts.{part-once}
+use Rattle.base.proofs.Parts.{same-part}
 use Rattle.buffer.specs.declared.fixed64.TpmBuffer64.{TpmBuffer64}
 use Rattle.buffer.specs.declared.fixed64.Extended64.{Extended64}
 use Rattle.buffer.specs.declared.fixed1024.TpmBuffer1024.{TpmBuffer1024}
 use Rattle.buffer.specs.declared.fixed1024.Extended1024.{Extended1024}
 use Rattle.buffer.specs.Capacities.{of64, of1024}
-use Rattle.buffer.specs.View.{prefix, whole, dataRange}
 use Rattle.buffer.proofs.view.size.Kinds as size-kinds
 use Rattle.buffer.proofs.view.size.Reads as size-reads
 use Rattle.buffer.proofs.view.validate_prefix.Kinds as validate-prefix-kinds
@@ -122,28 +118,28 @@ len : Single 1 len-kinds.ps len-kinds.r len-reads.Post
 len κs a x y v w p q = (p ∙ sym q, refl)
 
 cast : SinglePart 1 cast-kinds.ps cast-kinds.r (λ κs x. x) cast-reads.Post
-cast κs a x y v w p q = (part-once (upTo (whole (a .0) (now (a .1 .0)))) (a .1 .0) x y p q, refl)
+cast κs a x y v w p q = (same-part x y p q, refl)
 
 cast-prefix : SinglePart 1 cast-prefix-kinds.ps cast-prefix-kinds.r (λ κs x. x) cast-prefix-reads.Post
-cast-prefix κs a x y v w p q = (part-once (upTo (prefix (a .0) (now (a .1 .0)))) (a .1 .0) x y p q, refl)
+cast-prefix κs a x y v w p q = (same-part x y p q, refl)
 
 cast-prefix-tail : SinglePart 1 cast-prefix-tail-kinds.ps cast-prefix-tail-kinds.r (λ κs x. x) cast-prefix-tail-reads.Post
-cast-prefix-tail κs a x y v w p q = (part-once (behind (upTo (prefix (a .0) (now (a .1 .0)))) (length (now (a .1 .0)))) (a .1 .0) x y p q, refl)
+cast-prefix-tail κs a x y v w p q = (same-part x y p q, refl)
 
 cast-mut : SinglePart 1 cast-mut-kinds.ps cast-mut-kinds.r (λ κs x. x) cast-mut-reads.Post
-cast-mut κs a x y v w p q = (part-once (upTo (whole (a .0) (now (a .1 .0)))) (a .1 .0) x y p q, refl)
+cast-mut κs a x y v w p q = (same-part x y p q, refl)
 
 cast-prefix-mut : SinglePart 1 cast-prefix-mut-kinds.ps cast-prefix-mut-kinds.r (λ κs x. x) cast-prefix-mut-reads.Post
-cast-prefix-mut κs a x y v w p q = (part-once (upTo (prefix (a .0) (now (a .1 .0)))) (a .1 .0) x y p q, refl)
+cast-prefix-mut κs a x y v w p q = (same-part x y p q, refl)
 
 cast-prefix-tail-mut : SinglePart 1 cast-prefix-tail-mut-kinds.ps cast-prefix-tail-mut-kinds.r (λ κs x. x) cast-prefix-tail-mut-reads.Post
-cast-prefix-tail-mut κs a x y v w p q = (part-once (behind (upTo (prefix (a .0) (now (a .1 .0)))) (length (now (a .1 .0)))) (a .1 .0) x y p q, refl)
+cast-prefix-tail-mut κs a x y v w p q = (same-part x y p q, refl)
 
 data-part : SinglePart 1 data-kinds.ps data-kinds.r (λ κs x. x) data-reads.Post
-data-part κs a x y v w p q = (part-once (dataRange (now (a .0))) (a .0) x y p q, refl)
+data-part κs a x y v w p q = (same-part x y p q, refl)
 
 data-mut : SinglePart 1 data-mut-kinds.ps data-mut-kinds.r (λ κs x. x) data-mut-reads.Post
-data-mut κs a x y v w p q = (part-once (dataRange (now (a .0))) (a .0) x y p q, refl)
+data-mut κs a x y v w p q = (same-part x y p q, refl)
 
 -- ---- the buffer of 64
 

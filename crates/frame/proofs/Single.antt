@@ -1,9 +1,6 @@
 -- Each public function of frame leaves a single answer and a single later state of what was lent (base, specs/Single.antt).
 -- Assumes nothing.
 use mathlib.Core.Path.{_≡_, refl, sym, _∙_, ap}
-use lib.ListN.{length}
-use denote.Ref.{now}
-use Rattle.base.specs.Parts.{behind, upTo}
 use Rattle.base.specs.Single.{Single, SinglePart}
 use Rattle.base.proofs.Refusals.{named-numbered}
 use Rattle.base.proofs.Answers.{
@@ -16,15 +13,12 @@ use Rattle.base.proofs.Answers.{
   saidResponseCode-injective,
   saidTag-injective,
 }
-use Rattle.base.proofs.Parts.{part-once}
-use Rattle.table.specs.Dispatch.{dispatch, commandCodes}
+use Rattle.base.proofs.Parts.{same-part}
 use Rattle.frame.specs.declared.command.CommandRead.{CommandRead}
 use Rattle.frame.specs.declared.command.CommandRead.the-variants as command
 use Rattle.frame.specs.declared.response.ResponseRead.{ResponseRead}
 use Rattle.frame.specs.declared.response.ResponseRead.the-variants as response
-use Rattle.frame.specs.Answer.{saidCommand, saidResponse, whole}
-use Rattle.frame.specs.Command.{authRange, castCommand, castCommandPrefix, handlesRange, parametersRange}
-use Rattle.frame.specs.Response.{bodyRange, castResponse, castResponsePrefix}
+use Rattle.frame.specs.Answer.{saidCommand, saidResponse}
 use Rattle.frame.proofs.session.Entries.new.Kinds as entries-new-kinds
 use Rattle.frame.proofs.session.Entries.new.Reads as entries-new-reads
 use Rattle.frame.proofs.header.tag.Kinds as frame-tag-kinds
@@ -162,46 +156,46 @@ command-parameters-range : Single 1 command-parameters-range-kinds.ps command-pa
 command-parameters-range κs a x y v w p q = (saidRange-injective x y (p ∙ sym q), refl)
 
 command-handles : SinglePart 1 command-handles-kinds.ps command-handles-kinds.r (λ κs x. x) command-handles-reads.Post
-command-handles κs a x y v w p q = (part-once (handlesRange dispatch commandCodes (now (a .0))) (a .0) x y p q, refl)
+command-handles κs a x y v w p q = (same-part x y p q, refl)
 
 command-auth-area : SinglePart 1 command-auth-area-kinds.ps command-auth-area-kinds.r (λ κs x. x) command-auth-area-reads.Post
-command-auth-area κs a x y v w p q = (part-once (authRange dispatch commandCodes (now (a .0))) (a .0) x y p q, refl)
+command-auth-area κs a x y v w p q = (same-part x y p q, refl)
 
 command-parameters : SinglePart 1 command-parameters-kinds.ps command-parameters-kinds.r (λ κs x. x) command-parameters-reads.Post
-command-parameters κs a x y v w p q = (part-once (parametersRange dispatch commandCodes (now (a .0))) (a .0) x y p q, refl)
+command-parameters κs a x y v w p q = (same-part x y p q, refl)
 
 command-handles-mut : SinglePart 1 command-handles-mut-kinds.ps command-handles-mut-kinds.r (λ κs x. x) command-handles-mut-reads.Post
-command-handles-mut κs a x y v w p q = (part-once (handlesRange dispatch commandCodes (now (a .0))) (a .0) x y p q, refl)
+command-handles-mut κs a x y v w p q = (same-part x y p q, refl)
 
 command-auth-area-mut : SinglePart 1 command-auth-area-mut-kinds.ps command-auth-area-mut-kinds.r (λ κs x. x) command-auth-area-mut-reads.Post
-command-auth-area-mut κs a x y v w p q = (part-once (authRange dispatch commandCodes (now (a .0))) (a .0) x y p q, refl)
+command-auth-area-mut κs a x y v w p q = (same-part x y p q, refl)
 
 command-parameters-mut : SinglePart 1 command-parameters-mut-kinds.ps command-parameters-mut-kinds.r (λ κs x. x) command-parameters-mut-reads.Post
-command-parameters-mut κs a x y v w p q = (part-once (parametersRange dispatch commandCodes (now (a .0))) (a .0) x y p q, refl)
+command-parameters-mut κs a x y v w p q = (same-part x y p q, refl)
 
 command-cast-range : Single 1 command-cast-range-kinds.ps command-cast-range-kinds.r command-cast-range-reads.Post
 command-cast-range κs a x y v w p q = (saidRange-injective x y (p ∙ sym q), refl)
 
 command-cast : SinglePart 1 command-cast-kinds.ps command-cast-kinds.r (λ κs x. x) command-cast-reads.Post
-command-cast κs a x y v w p q = (part-once (whole (now (a .0)) (castCommand dispatch commandCodes (now (a .0)))) (a .0) x y p q, refl)
+command-cast κs a x y v w p q = (same-part x y p q, refl)
 
 command-cast-mut : SinglePart 1 command-cast-mut-kinds.ps command-cast-mut-kinds.r (λ κs x. x) command-cast-mut-reads.Post
-command-cast-mut κs a x y v w p q = (part-once (whole (now (a .0)) (castCommand dispatch commandCodes (now (a .0)))) (a .0) x y p q, refl)
+command-cast-mut κs a x y v w p q = (same-part x y p q, refl)
 
 command-cast-prefix-range : Single 1 command-cast-prefix-range-kinds.ps command-cast-prefix-range-kinds.r command-cast-prefix-range-reads.Post
 command-cast-prefix-range κs a x y v w p q = (saidRange-injective x y (p ∙ sym q), refl)
 
 command-cast-prefix : SinglePart 1 command-cast-prefix-kinds.ps command-cast-prefix-kinds.r (λ κs x. x) command-cast-prefix-reads.Post
-command-cast-prefix κs a x y v w p q = (part-once (upTo (castCommandPrefix dispatch commandCodes (now (a .0)))) (a .0) x y p q, refl)
+command-cast-prefix κs a x y v w p q = (same-part x y p q, refl)
 
 command-cast-prefix-mut : SinglePart 1 command-cast-prefix-mut-kinds.ps command-cast-prefix-mut-kinds.r (λ κs x. x) command-cast-prefix-mut-reads.Post
-command-cast-prefix-mut κs a x y v w p q = (part-once (upTo (castCommandPrefix dispatch commandCodes (now (a .0)))) (a .0) x y p q, refl)
+command-cast-prefix-mut κs a x y v w p q = (same-part x y p q, refl)
 
 command-cast-prefix-tail : SinglePart 1 command-cast-prefix-tail-kinds.ps command-cast-prefix-tail-kinds.r (λ κs x. x) command-cast-prefix-tail-reads.Post
-command-cast-prefix-tail κs a x y v w p q = (part-once (behind (upTo (castCommandPrefix dispatch commandCodes (now (a .0)))) (length (now (a .0)))) (a .0) x y p q, refl)
+command-cast-prefix-tail κs a x y v w p q = (same-part x y p q, refl)
 
 command-cast-prefix-tail-mut : SinglePart 1 command-cast-prefix-tail-mut-kinds.ps command-cast-prefix-tail-mut-kinds.r (λ κs x. x) command-cast-prefix-tail-mut-reads.Post
-command-cast-prefix-tail-mut κs a x y v w p q = (part-once (behind (upTo (castCommandPrefix dispatch commandCodes (now (a .0)))) (length (now (a .0)))) (a .0) x y p q, refl)
+command-cast-prefix-tail-mut κs a x y v w p q = (same-part x y p q, refl)
 
 command-validate : Single 1 command-validate-kinds.ps command-validate-kinds.r command-validate-reads.Post
 command-validate κs a x y v w p q = (saidOutcome-injective x y (p ∙ sym q), refl)
@@ -221,34 +215,34 @@ response-body-range : Single 1 response-body-range-kinds.ps response-body-range-
 response-body-range κs a x y v w p q = (saidRange-injective x y (p ∙ sym q), refl)
 
 response-body : SinglePart 1 response-body-kinds.ps response-body-kinds.r (λ κs x. x) response-body-reads.Post
-response-body κs a x y v w p q = (part-once (bodyRange (now (a .0))) (a .0) x y p q, refl)
+response-body κs a x y v w p q = (same-part x y p q, refl)
 
 response-body-mut : SinglePart 1 response-body-mut-kinds.ps response-body-mut-kinds.r (λ κs x. x) response-body-mut-reads.Post
-response-body-mut κs a x y v w p q = (part-once (bodyRange (now (a .0))) (a .0) x y p q, refl)
+response-body-mut κs a x y v w p q = (same-part x y p q, refl)
 
 response-cast-range : Single 1 response-cast-range-kinds.ps response-cast-range-kinds.r response-cast-range-reads.Post
 response-cast-range κs a x y v w p q = (saidRange-injective x y (p ∙ sym q), refl)
 
 response-cast : SinglePart 1 response-cast-kinds.ps response-cast-kinds.r (λ κs x. x) response-cast-reads.Post
-response-cast κs a x y v w p q = (part-once (whole (now (a .0)) (castResponse (now (a .0)))) (a .0) x y p q, refl)
+response-cast κs a x y v w p q = (same-part x y p q, refl)
 
 response-cast-mut : SinglePart 1 response-cast-mut-kinds.ps response-cast-mut-kinds.r (λ κs x. x) response-cast-mut-reads.Post
-response-cast-mut κs a x y v w p q = (part-once (whole (now (a .0)) (castResponse (now (a .0)))) (a .0) x y p q, refl)
+response-cast-mut κs a x y v w p q = (same-part x y p q, refl)
 
 response-cast-prefix-range : Single 1 response-cast-prefix-range-kinds.ps response-cast-prefix-range-kinds.r response-cast-prefix-range-reads.Post
 response-cast-prefix-range κs a x y v w p q = (saidRange-injective x y (p ∙ sym q), refl)
 
 response-cast-prefix : SinglePart 1 response-cast-prefix-kinds.ps response-cast-prefix-kinds.r (λ κs x. x) response-cast-prefix-reads.Post
-response-cast-prefix κs a x y v w p q = (part-once (upTo (castResponsePrefix (now (a .0)))) (a .0) x y p q, refl)
+response-cast-prefix κs a x y v w p q = (same-part x y p q, refl)
 
 response-cast-prefix-mut : SinglePart 1 response-cast-prefix-mut-kinds.ps response-cast-prefix-mut-kinds.r (λ κs x. x) response-cast-prefix-mut-reads.Post
-response-cast-prefix-mut κs a x y v w p q = (part-once (upTo (castResponsePrefix (now (a .0)))) (a .0) x y p q, refl)
+response-cast-prefix-mut κs a x y v w p q = (same-part x y p q, refl)
 
 response-cast-prefix-tail : SinglePart 1 response-cast-prefix-tail-kinds.ps response-cast-prefix-tail-kinds.r (λ κs x. x) response-cast-prefix-tail-reads.Post
-response-cast-prefix-tail κs a x y v w p q = (part-once (behind (upTo (castResponsePrefix (now (a .0)))) (length (now (a .0)))) (a .0) x y p q, refl)
+response-cast-prefix-tail κs a x y v w p q = (same-part x y p q, refl)
 
 response-cast-prefix-tail-mut : SinglePart 1 response-cast-prefix-tail-mut-kinds.ps response-cast-prefix-tail-mut-kinds.r (λ κs x. x) response-cast-prefix-tail-mut-reads.Post
-response-cast-prefix-tail-mut κs a x y v w p q = (part-once (behind (upTo (castResponsePrefix (now (a .0)))) (length (now (a .0)))) (a .0) x y p q, refl)
+response-cast-prefix-tail-mut κs a x y v w p q = (same-part x y p q, refl)
 
 response-validate : Single 1 response-validate-kinds.ps response-validate-kinds.r response-validate-reads.Post
 response-validate κs a x y v w p q = (saidOutcome-injective x y (p ∙ sym q), refl)

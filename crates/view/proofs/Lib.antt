@@ -1,0 +1,9 @@
+pub mod Giving
+pub mod Holders
+pub mod HoldersMut
+pub mod Holding
+pub mod HoldingMut
+pub mod Laws
+pub mod Making
+pub mod Single
+pub mod Thin
