@@ -8,6 +8,7 @@ use crate::told::filled;
 use crate::told::read;
 use crate::told::unknown;
 use crate::told::wrote;
+use crate::views;
 use base::answer::Outcome;
 use base::answer::Range;
 use base::error::TpmError;
@@ -43,7 +44,7 @@ fn ran(s: &[u8]) -> bool {
 
 fn answered(name: &[u8], bytes: &mut [u8], first: usize, second: usize) -> bool {
     let mut out = [0u64; 8];
-    if records::answered(name, bytes, first, second) {
+    if records::answered(name, bytes, first, second) || views::answered(name, bytes, first) {
         return true;
     }
     let told = call(name, bytes, first, second, &mut out);

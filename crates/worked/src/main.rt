@@ -12,6 +12,7 @@ mod records;
 mod show;
 mod text;
 mod told;
+mod views;
 
 fn main() {
     lines::each();

@@ -1,5 +1,6 @@
 // How an answer is written: numbers in decimal with a space before each, bytes in hex.
 use crate::told::Told;
+use base::answer::Outcome;
 use frame::session::Entries;
 use frame::session::Session;
 
@@ -39,6 +40,22 @@ pub(crate) fn answer(told: Told, out: [u64; 8], later: &[u8]) {
         io::write_all(1, b" ; ");
         bytes(later);
     }
+}
+
+// What a view holds: how many bytes, and whether they pass the full check; then its parts.
+pub(crate) fn held(len: usize, full: Outcome) {
+    io::write_all(1, b" = ");
+    io::print_decimal(1, len as u64);
+    match full {
+        Outcome::Done => io::write_all(1, b" passes"),
+        Outcome::Refused(_) => io::write_all(1, b" refused"),
+    }
+    ;
+}
+
+pub(crate) fn part(s: &[u8]) {
+    io::write_all(1, b" ");
+    bytes(s);
 }
 
 // The first three entries, each in the order of the wire.
