@@ -1,4 +1,5 @@
 pub mod Clauses
 pub mod Laws
+pub mod Numbers
 pub mod Single
 pub mod Writing
