@@ -44,6 +44,9 @@ pub struct Sessions {
     pub three: [Session; 3],
 }
 
+/// The most records that are handed over in an array: one more than the crate takes.
+pub const MOST: usize = 9;
+
 /// All parts of a frame; its code is a command code or a response code.
 #[repr(C)]
 #[derive(Clone, Copy, Debug, Default, PartialEq, Eq)]
