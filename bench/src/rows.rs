@@ -68,6 +68,10 @@ pub static ROWS: &[Row] = &[
     Row { name: "command write, 1 session", run: |side, n| writers::command(side, n, &frames::made(1, 8)) },
     Row { name: "command write, 2 sessions", run: |side, n| writers::command(side, n, &frames::made(2, 8)) },
     Row { name: "command write, 3 sessions", run: |side, n| writers::command(side, n, &frames::made(3, 8)) },
+    Row { name: "command write, array of 0", run: |side, n| writers::command_array(side, n, &frames::made(0, 8)) },
+    Row { name: "command write, array of 1", run: |side, n| writers::command_array(side, n, &frames::made(1, 8)) },
+    Row { name: "command write, array of 2", run: |side, n| writers::command_array(side, n, &frames::made(2, 8)) },
+    Row { name: "command write, array of 3", run: |side, n| writers::command_array(side, n, &frames::made(3, 8)) },
     Row {
         name: "command write, 1 session, 3,000 bytes",
         run: |side, n| writers::command(side, n, &frames::made(1, 3000)),
@@ -80,6 +84,10 @@ pub static ROWS: &[Row] = &[
     Row { name: "response write, 1 session", run: |side, n| writers::response(side, n, &frames::made(1, 8)) },
     Row { name: "response write, 2 sessions", run: |side, n| writers::response(side, n, &frames::made(2, 8)) },
     Row { name: "response write, 3 sessions", run: |side, n| writers::response(side, n, &frames::made(3, 8)) },
+    Row { name: "response write, array of 0", run: |side, n| writers::response_array(side, n, &frames::made(0, 8)) },
+    Row { name: "response write, array of 1", run: |side, n| writers::response_array(side, n, &frames::made(1, 8)) },
+    Row { name: "response write, array of 2", run: |side, n| writers::response_array(side, n, &frames::made(2, 8)) },
+    Row { name: "response write, array of 3", run: |side, n| writers::response_array(side, n, &frames::made(3, 8)) },
     Row {
         name: "response write, 1 session, 3,000 bytes",
         run: |side, n| writers::response(side, n, &frames::made(1, 3000)),

@@ -40,6 +40,23 @@ pub fn command_by_us(n: u64, pair: &Pair) {
     });
 }
 
+/// The same with the records in an array.
+pub fn command_array(side: Side, n: u64, [pair]: &[Pair; 1]) {
+    match side {
+        Side::Ours => command_array_by_us(n, pair),
+        Side::Other => command_by_rust(n, pair),
+        Side::Empty => nothing(n),
+    }
+}
+
+fn command_array_by_us(n: u64, pair: &Pair) {
+    let frame = pair.command_frame();
+    let given = handed(&pair.command, frame).over(&frame.sessions.three);
+    again(&pair.command, &(frame, given), n, |(frame, given), room, out| {
+        calls::command_write_array(frame.tag, frame.code, *given, room, out)
+    });
+}
+
 fn command_by_rust(n: u64, pair: &Pair) {
     let (frame, cc) = (pair.command_frame(), pair.cc());
     let tag = TpmSt::try_from(frame.tag).expect("the tag is known");
@@ -62,6 +79,22 @@ fn response_by_us(n: u64, pair: &Pair) {
     let (frame, cc) = (pair.response_frame(), pair.cc().value());
     again(&pair.response, &(cc, frame, handed(&pair.response, frame)), n, |(cc, frame, given), room, out| {
         calls::response_write(frame.code, *cc, *given, room, out)
+    });
+}
+
+pub fn response_array(side: Side, n: u64, [pair]: &[Pair; 1]) {
+    match side {
+        Side::Ours => response_array_by_us(n, pair),
+        Side::Other => response_by_rust(n, pair),
+        Side::Empty => nothing(n),
+    }
+}
+
+fn response_array_by_us(n: u64, pair: &Pair) {
+    let (frame, cc) = (pair.response_frame(), pair.cc().value());
+    let given = handed(&pair.response, frame).over(&frame.sessions.three);
+    again(&pair.response, &(cc, frame, given), n, |(cc, frame, given), room, out| {
+        calls::response_write_array(frame.code, *cc, *given, room, out)
     });
 }
 

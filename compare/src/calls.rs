@@ -2,7 +2,10 @@
 //!
 //! One convention for all: bytes and their length go in, the refusal's number comes out (0: an answer), and the lent
 //! array takes the answer's numbers or the refusal's fields. Bytes in an array go in without their length. All parts of a
-//! frame come by value, with the number before them, and the writers take the sessions in the record that is among them.
+//! frame come by value, with the number before them, and the writers take the sessions in the record that is among them,
+//! or in an array of records.
+
+use std::ptr;
 
 /// The lent array.
 pub type Out = [u64; 8];
@@ -41,6 +44,9 @@ pub struct Sessions {
     pub three: [Session; 3],
 }
 
+/// The most records that are handed over in an array: one more than the crate takes.
+pub const MOST: usize = 9;
+
 /// All parts of a frame; its code is a command code or a response code.
 #[repr(C)]
 #[derive(Clone, Copy, Debug, Default, PartialEq, Eq)]
@@ -62,13 +68,21 @@ pub struct Parts {
 }
 
 /// What a writer takes beside the tag or the code: handle bytes, sessions, the bytes that their places point into, and
-/// parameter bytes.
+/// parameter bytes. The sessions are the record by value, or a slice of records.
 #[derive(Clone, Copy)]
-pub struct Handed<'a> {
+pub struct Handed<'a, S = Sessions> {
     pub handles: &'a [u8],
-    pub sessions: Sessions,
+    pub sessions: S,
     pub lent: &'a [u8],
     pub parameters: &'a [u8],
+}
+
+impl<'a> Handed<'a> {
+    /// The same with as many of the records as the count says in place of the record by value.
+    pub fn over(self, records: &'a [Session]) -> Handed<'a, &'a [Session]> {
+        let Self { handles, sessions, lent, parameters } = self;
+        Handed { handles, sessions: &records[..sessions.count], lent, parameters }
+    }
 }
 
 /// A slice as C takes it: where it starts, and its length.
@@ -195,23 +209,29 @@ parts! {
     response_parts = skein_response_parts(cc: u32);
 }
 
-/// The sessions as a writer takes them.
+/// The sessions as a writer by value takes them.
 #[cfg(not(target_arch = "aarch64"))]
 type Passed<'a> = Sessions;
 #[cfg(target_arch = "aarch64")]
 type Passed<'a> = &'a Sessions;
 
-fn passed(sessions: &Sessions) -> Passed<'_> {
+fn passed(sessions: &Sessions) -> (Passed<'_>,) {
     #[cfg(not(target_arch = "aarch64"))]
-    return *sessions;
+    return (*sessions,);
     #[cfg(target_arch = "aarch64")]
-    return sessions;
+    return (sessions,);
 }
 
-/// Makes a safe function of a writer, which takes a number and the command's code before what it is handed.
+/// The records as a writer over an array takes them: no record is a null pointer.
+fn counted(records: &&[Session]) -> (*const Session, usize) {
+    (if records.is_empty() { ptr::null() } else { records.as_ptr() }, records.len())
+}
+
+/// Makes a safe function of a writer, which takes a number and the command's code before what it is handed. The brackets
+/// hold what C is passed for the sessions, and what makes it of them.
 macro_rules! writers {
-    ($($name:ident = $call:literal or $arm:literal ($number:ident: $n:ty);)*) => {$(
-        pub fn $name($number: $n, cc: u32, given: Handed, room: &mut [u8], out: &mut Out) -> u32 {
+    ($($name:ident = $call:literal or $arm:literal ($number:ident: $n:ty) $sessions:ty [$($part:ident: $p:ty),*] $pass:ident;)*) => {$(
+        pub fn $name($number: $n, cc: u32, given: Handed<$sessions>, room: &mut [u8], out: &mut Out) -> u32 {
             unsafe extern "C" {
                 #[cfg_attr(not(target_arch = "aarch64"), link_name = $call)]
                 #[cfg_attr(target_arch = "aarch64", link_name = $arm)]
@@ -220,7 +240,7 @@ macro_rules! writers {
                     cc: u32,
                     handles: *const u8,
                     handles_len: usize,
-                    sessions: Passed,
+                    $($part: $p,)*
                     lent: *const u8,
                     lent_len: usize,
                     parameters: *const u8,
@@ -232,16 +252,20 @@ macro_rules! writers {
             }
             let Handed { handles, sessions, lent, parameters } = given;
             let ((handles, h), (lent, l), (parameters, p)) = (handles.lent(), lent.lent(), parameters.lent());
-            let (room, r) = room.lent();
+            let ((room, r), ($($part,)*)) = (room.lent(), $pass(&sessions));
             // SAFETY: as above; the room is borrowed apart from all else.
-            unsafe { call($number, cc, handles, h, passed(&sessions), lent, l, parameters, p, room, r, out) }
+            unsafe { call($number, cc, handles, h, $($part,)* lent, l, parameters, p, room, r, out) }
         }
     )*};
 }
 
 writers! {
-    command_write = "skein_command_write" or "skein_arm_command_write" (tag: u16);
-    response_write = "skein_response_write" or "skein_arm_response_write" (rc: u32);
+    command_write = "skein_command_write" or "skein_arm_command_write" (tag: u16) Sessions [sessions: Passed] passed;
+    response_write = "skein_response_write" or "skein_arm_response_write" (rc: u32) Sessions [sessions: Passed] passed;
+    command_write_array = "skein_command_write_array" or "skein_command_write_array" (tag: u16)
+        &[Session] [records: *const Session, count: usize] counted;
+    response_write_array = "skein_response_write_array" or "skein_response_write_array" (rc: u32)
+        &[Session] [records: *const Session, count: usize] counted;
 }
 
 /// The data of a fixed buffer, an array as long as the capacity, and the calls of that capacity.

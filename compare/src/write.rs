@@ -19,7 +19,7 @@ pub use again::Again;
 pub use desk::Desk;
 
 use crate::answer::{Answer, Hex};
-use crate::calls::{self, Field, Handed, Out, Session, Sessions};
+use crate::calls::{self, Field, Handed, MOST, Out, Session, Sessions};
 use crate::judge::{Case, Judge, Tally};
 use crate::random::Random;
 use crate::shrink;
@@ -35,10 +35,12 @@ pub enum Kind {
 impl Kind {
     pub const ALL: [Self; 2] = [Self::Command, Self::Response];
 
-    pub fn name(self) -> &'static str {
-        match self {
-            Self::Command => "command_write",
-            Self::Response => "response_write",
+    pub fn name(self, array: bool) -> &'static str {
+        match (self, array) {
+            (Self::Command, false) => "command_write",
+            (Self::Response, false) => "response_write",
+            (Self::Command, true) => "command_write_array",
+            (Self::Response, true) => "response_write_array",
         }
     }
 }
@@ -47,6 +49,8 @@ impl Kind {
 #[derive(Clone)]
 pub struct Write {
     pub kind: Kind,
+    /// The sessions go in as an array of records, of at most `MOST`; the judges are asked the same either way.
+    pub array: bool,
     /// The tag of a command, the code of a response.
     pub number: u32,
     /// The code of the command that is written, or answered.
@@ -67,7 +71,7 @@ static FILL: LazyLock<Vec<u8>> =
 /// `NAME NUMBER CC HANDLES COUNT SESSION SESSION SESSION LENT PARAMETERS ROOM`, the room by its length.
 impl fmt::Display for Write {
     fn fmt(&self, f: &mut fmt::Formatter) -> fmt::Result {
-        write!(f, "{} {} {} {} ", self.kind.name(), self.number, self.cc, Hex(&self.handles))?;
+        write!(f, "{} {} {} {} ", self.kind.name(self.array), self.number, self.cc, Hex(&self.handles))?;
         write!(f, "{} {} {} {}", self.sessions, Hex(&self.lent), Hex(&self.parameters), self.room)
     }
 }
@@ -85,10 +89,14 @@ impl Case for Write {
     }
 
     fn ours(&self, answer: &mut Answer) {
+        let records = self.records();
+        let (number, tag, cc) = (self.number, self.number as u16, self.cc);
         self.try_write(answer, |given, room, out| {
-            Some(match self.kind {
-                Kind::Command => calls::command_write(self.number as u16, self.cc, given, room, out),
-                Kind::Response => calls::response_write(self.number, self.cc, given, room, out),
+            Some(match (self.kind, self.array) {
+                (Kind::Command, false) => calls::command_write(tag, cc, given, room, out),
+                (Kind::Command, true) => calls::command_write_array(tag, cc, given.over(&records), room, out),
+                (Kind::Response, false) => calls::response_write(number, cc, given, room, out),
+                (Kind::Response, true) => calls::response_write_array(number, cc, given.over(&records), room, out),
             })
         });
     }
@@ -121,6 +129,14 @@ impl Write {
         let entries: usize = looked_at.map(|session| entry(session) + if command { 4 } else { 0 }).sum();
         let size = if self.sessions.count > 0 { 4 } else { 0 };
         10 + self.handles.len() + size + entries + self.parameters.len()
+    }
+
+    /// The sessions as records. What the fourth and later ones hold is not to be looked at: places past every end.
+    fn records(&self) -> [Session; MOST] {
+        let nowhere = Field { at: usize::MAX, size: u16::MAX };
+        let mut records = [Session { handle: u32::MAX, nonce: nowhere, attributes: u8::MAX, hmac: nowhere }; MOST];
+        records[..3].copy_from_slice(&self.sessions.three);
+        records
     }
 
     /// Makes a call, or has a judge write, on what `answer` lends; tells whether it was done.

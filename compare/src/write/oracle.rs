@@ -1,7 +1,7 @@
 //! The crate's writers under the convention of `calls`. There is none where the crate cannot be asked: a tag, a code or a
 //! session that its types cannot hold, or handle bytes that are not the row's.
 
-use crate::calls::{Handed, Out, Session};
+use crate::calls::{Handed, MOST, Out, Session};
 use crate::frame;
 use crate::oracle::tell;
 use tpm2_protocol::basic::{TpmBuffer, TpmHandle};
@@ -52,9 +52,6 @@ impl TpmFrame for Body<'_> {
         self.row_handles
     }
 }
-
-/// One session more than the crate takes.
-pub const MOST: usize = 9;
 
 pub fn command_write(tag: u16, cc: u32, given: Handed, room: &mut [u8], out: &mut Out) -> Option<u32> {
     let (tag, cc) = (TpmSt::try_from(tag).ok()?, TpmCc::try_from(cc).ok()?);

@@ -1,6 +1,7 @@
 pub mod Answers
 pub mod Bytes
 pub mod Checks
+pub mod Facts
 pub mod Handing
 pub mod HandingBy
 pub mod Lending

@@ -1,3 +1,4 @@
+pub mod Arrays
 pub mod Laid
 pub mod Reported
 pub mod Single

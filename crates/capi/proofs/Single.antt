@@ -4,7 +4,10 @@ use mathlib.Core.Path.{_≡_, sym, _∙_}
 use mathlib.Core.List.{List}
 use Prim.Native.Nat.{ℕ}
 use Rattle.base.specs.Said.{Said}
-use Rattle.base.specs.Single.{Single}
+use Rattle.base.specs.Single.{Single, SingleBy}
+use Rattle.base.proofs.Facts.{both}
+use Rattle.capi.proofs.array.skein_command_write_array as of-skein-command-write-array
+use Rattle.capi.proofs.array.skein_response_write_array as of-skein-response-write-array
 use Rattle.capi.specs.Out.{Reports}
 use Rattle.capi.proofs.field.skein_read_u16.Kinds as skein-read-u16-kinds
 use Rattle.capi.proofs.field.skein_read_u16.Reads as skein-read-u16-reads
@@ -316,3 +319,23 @@ skein-response-write κs a x y v w p q = (
   status (p .0) (q .0),
   λ i. (tt, (tt, (tt, (tt, (tt, (tt, ((p .1 ∙ sym (q .1)) i, (array (p .0) (q .0) i, tt)))))))),
 )
+
+skein-command-write-array : SingleBy of-skein-command-write-array.ended (λ M 𝓤 H. of-skein-command-write-array.clauses 𝓤 H) (λ κs x y. x ≡ y)
+skein-command-write-array = record {
+  Post = _;
+  says = λ 𝓤 H A mem run κs a g r s. both 𝓤 _ _;
+  once = λ κs a x y v w p q. (
+    status (p .0) (q .0),
+    λ i. (tt, (tt, (tt, (tt, (tt, (tt, ((p .1 ∙ sym (q .1)) i, (array (p .0) (q .0) i, tt)))))))),
+  );
+}
+
+skein-response-write-array : SingleBy of-skein-response-write-array.ended (λ M 𝓤 H. of-skein-response-write-array.clauses 𝓤 H) (λ κs x y. x ≡ y)
+skein-response-write-array = record {
+  Post = _;
+  says = λ 𝓤 H A mem run κs a g r s. both 𝓤 _ _;
+  once = λ κs a x y v w p q. (
+    status (p .0) (q .0),
+    λ i. (tt, (tt, (tt, (tt, (tt, (tt, ((p .1 ∙ sym (q .1)) i, (array (p .0) (q .0) i, tt)))))))),
+  );
+}

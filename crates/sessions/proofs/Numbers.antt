@@ -1,0 +1,31 @@
+-- The tag and the response code by value, as `Writing.antt` asks for them.
+-- Assumes nothing.
+use mathlib.Core.Path.{refl}
+use denote.Struct.Laws as LL
+use Rattle.base.proofs.code.TpmRc as Rc
+use Rattle.base.proofs.code.TpmRc.Laws as Rc′
+use Rattle.base.proofs.code.TpmSt as St
+use Rattle.base.proofs.code.TpmSt.Laws as St′
+use Rattle.sessions.proofs.Writing.{ByValue}
+
+abbrev pub tag : ByValue
+tag = record {
+  row = St.the-row;
+  ty = St′.mir;
+  low = St′.lowered;
+  tells = St′.lowers .val-is;
+  typed = λ d is. (tt, (record { fits = LL.owed St.the-type St′.the-laws d _ is .0 .1 }, tt));
+  last = λ d. tt;
+  silent = λ d w. refl;
+}
+
+abbrev pub code : ByValue
+code = record {
+  row = Rc.the-row;
+  ty = Rc′.mir;
+  low = Rc′.lowered;
+  tells = Rc′.lowers .val-is;
+  typed = λ d is. (tt, (record { fits = LL.owed Rc.the-type Rc′.the-laws d _ is .0 .1 }, tt));
+  last = λ d. tt;
+  silent = λ d w. refl;
+}
