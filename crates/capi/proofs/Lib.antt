@@ -1,3 +1,4 @@
 pub mod Laid
+pub mod Numbered
 pub mod Reported
 pub mod Single
