@@ -1,17 +1,32 @@
-; The module that the kit proved is lowered for x86-64, where a large struct is passed on the stack. On Arm the same module
-; still takes it there, and Arm's callers pass a pointer to it. These two take the pointer; steps.sh puts them into the
-; library on Arm machines, and src/calls.rs calls them there.
+; The module that the kit proved is lowered for x86-64: a struct that comes back goes by a pointer that is the first argument,
+; and one that goes in stands on the stack. On Arm the pointer of what comes back has a register of its own, and what goes in is
+; a pointer too. Here are the four calls that pass structs in Arm's own form; each calls the proved one, whose name steps.sh makes
+; end in .lowered. No number and no byte is looked at on the way.
 
-declare i32 @skein_command_write(i16, i32, ptr, i64, ptr byval([152 x i8]) align 8, ptr, i64, ptr, i64, ptr, i64, ptr)
+declare ptr @skein_command_parts.lowered(ptr, ptr, i64, ptr)
 
-declare i32 @skein_response_write(i32, i32, ptr, i64, ptr byval([152 x i8]) align 8, ptr, i64, ptr, i64, ptr, i64, ptr)
+declare ptr @skein_response_parts.lowered(ptr, i32, ptr, i64, ptr)
 
-define i32 @skein_arm_command_write(i16 %tag, i32 %cc, ptr %handles, i64 %h, ptr %sessions, ptr %lent, i64 %l, ptr %parameters, i64 %p, ptr %room, i64 %r, ptr %out) {
-  %said = call i32 @skein_command_write(i16 %tag, i32 %cc, ptr %handles, i64 %h, ptr byval([152 x i8]) align 8 %sessions, ptr %lent, i64 %l, ptr %parameters, i64 %p, ptr %room, i64 %r, ptr %out)
+declare i32 @skein_command_write.lowered(i16, i32, ptr, i64, ptr byval([152 x i8]) align 8, ptr, i64, ptr, i64, ptr, i64, ptr)
+
+declare i32 @skein_response_write.lowered(i32, i32, ptr, i64, ptr byval([152 x i8]) align 8, ptr, i64, ptr, i64, ptr, i64, ptr)
+
+define void @skein_command_parts(ptr sret([216 x i8]) align 8 %parts, ptr %s, i64 %len, ptr %out) {
+  %there = call ptr @skein_command_parts.lowered(ptr %parts, ptr %s, i64 %len, ptr %out)
+  ret void
+}
+
+define void @skein_response_parts(ptr sret([216 x i8]) align 8 %parts, i32 %cc, ptr %s, i64 %len, ptr %out) {
+  %there = call ptr @skein_response_parts.lowered(ptr %parts, i32 %cc, ptr %s, i64 %len, ptr %out)
+  ret void
+}
+
+define i32 @skein_command_write(i16 %tag, i32 %cc, ptr %handles, i64 %h, ptr %sessions, ptr %lent, i64 %l, ptr %parameters, i64 %p, ptr %room, i64 %r, ptr %out) {
+  %said = call i32 @skein_command_write.lowered(i16 %tag, i32 %cc, ptr %handles, i64 %h, ptr byval([152 x i8]) align 8 %sessions, ptr %lent, i64 %l, ptr %parameters, i64 %p, ptr %room, i64 %r, ptr %out)
   ret i32 %said
 }
 
-define i32 @skein_arm_response_write(i32 %rc, i32 %cc, ptr %handles, i64 %h, ptr %sessions, ptr %lent, i64 %l, ptr %parameters, i64 %p, ptr %room, i64 %r, ptr %out) {
-  %said = call i32 @skein_response_write(i32 %rc, i32 %cc, ptr %handles, i64 %h, ptr byval([152 x i8]) align 8 %sessions, ptr %lent, i64 %l, ptr %parameters, i64 %p, ptr %room, i64 %r, ptr %out)
+define i32 @skein_response_write(i32 %rc, i32 %cc, ptr %handles, i64 %h, ptr %sessions, ptr %lent, i64 %l, ptr %parameters, i64 %p, ptr %room, i64 %r, ptr %out) {
+  %said = call i32 @skein_response_write.lowered(i32 %rc, i32 %cc, ptr %handles, i64 %h, ptr byval([152 x i8]) align 8 %sessions, ptr %lent, i64 %l, ptr %parameters, i64 %p, ptr %room, i64 %r, ptr %out)
   ret i32 %said
 }

@@ -66,17 +66,21 @@ shadow_kit() { # SHADOW
     ln -s "$(dirname "$from")" "$(dirname "$to")/kit"
 }
 
-# Puts the calls of arm.ll into the library in DIR.
+# Puts the calls of arm.ll in the place of the library's own in DIR, which get another name.
 add_arm_calls() { # DIR
-    "$1/kit/on/aarch64/toolchain/bin/kit/clang" --target=aarch64-unknown-linux-gnu -Wno-override-module \
-        -O3 -fPIE -c -x ir -o "$1/arm.o" "$compare/arm.ll" &&
-        ar r "$1/target/staticlib/libcapi.a" "$1/arm.o"
+    library=$1/target/staticlib/libcapi.a
+    sed -n 's/^declare .*@\(skein_[a-z_]*\)\(\.lowered\)(.*/\1 \1\2/p' "$compare/arm.ll" >"$1/lowered" &&
+        [ -s "$1/lowered" ] && objcopy --redefine-syms="$1/lowered" "$library" &&
+        "$1/kit/on/aarch64/toolchain/bin/kit/clang" --target=aarch64-unknown-linux-gnu -Wno-override-module \
+            -O3 -fPIE -c -x ir -o "$1/arm.o" "$compare/arm.ll" &&
+        ar r "$library" "$1/arm.o"
 }
 
 # Proves crate capi of the repository in DIR and writes DIR/target/staticlib/libcapi.a for this machine; DIR/build.log
 # has what was said. The kit writes libraries for x86-64 alone, and they cannot be linked on Arm. There the module that
 # the kit proved is compiled for Arm instead: what is compared is the same proved module, compiled for the machine at
-# hand, with the calls of arm.ll beside it. It stays in DIR, apart from the repository's own library for x86-64.
+# hand, with the calls of arm.ll before those that pass structs. It stays in DIR, apart from the repository's own library
+# for x86-64.
 build_library() { # DIR
     case $(uname -m) in
     x86_64) (cd "$1" && rt staticlib capi) ;;

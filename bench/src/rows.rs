@@ -150,7 +150,7 @@ where
 {
     match side {
         Side::Ours => extend_by::<_, N>(n, [0; N], Data::extend),
-        Side::Other => extend_by::<_, N>(n, TpmBuffer::<N>::new(), |_, buffer, s, out| {
+        Side::Other => extend_by::<_, N>(n, TpmBuffer::<N>::new(), |s, _, buffer, out| {
             *buffer = TpmBuffer::new();
             oracle::buffer_extend(buffer, s, out)
         }),
@@ -159,10 +159,10 @@ where
 }
 
 /// The Rust's buffer knows its own size.
-fn extend_by<B, const N: usize>(n: u64, mut buffer: B, call: fn(u16, &mut B, &[u8], &mut Out) -> u32) {
+fn extend_by<B, const N: usize>(n: u64, mut buffer: B, call: fn(&[u8], u16, &mut B, &mut Out) -> u32) {
     let call = black_box(call);
     let given = [0x5A; N];
-    repeat(n, |out| call(0, black_box(&mut buffer), black_box(&given), out));
+    repeat(n, |out| call(black_box(&given), 0, black_box(&mut buffer), out));
 }
 
 // ---- a full buffer, written to room that just holds it

@@ -4,7 +4,7 @@
 //! a number that should have been left alone, or a byte beside a slice, counts as much as the answer itself. The room
 //! is kept from call to call: once it is large enough, nothing is allocated.
 
-use crate::calls::{Frame, Out, Parts, Session, Sessions};
+use crate::calls::{self, Frame, OFFSET, Out, Parts, Session, Sessions};
 use std::fmt;
 use std::ops::Range;
 
@@ -65,18 +65,18 @@ impl Said {
 
     /// A judge's refusal, with its fields in document 01's order.
     pub fn refuses(&mut self, number: u32, fields: &[u64]) {
-        self.number = number;
-        self.out[..fields.len()].copy_from_slice(fields);
+        self.number = calls::report(number, fields.iter().copied(), &mut self.out);
     }
 
     pub fn number(&self) -> u32 {
         self.number
     }
 
-    /// The numbers that were reported: those of the array up to the first that is untouched.
+    /// The numbers that were reported: an answer's, or a refusal's fields, up to the first that is untouched.
     pub fn values(&self) -> impl Iterator<Item = u64> {
         let changed = |(now, before): (&u64, u64)| (*now != before).then_some(*now);
-        self.out.iter().zip(UNTOUCHED).map_while(changed)
+        let from = if self.number == 0 { 0 } else { OFFSET };
+        self.out.iter().zip(UNTOUCHED).skip(from).map_while(changed)
     }
 }
 

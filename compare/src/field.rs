@@ -16,16 +16,16 @@ struct Call {
 }
 
 static CALLS: [Call; 4] = [
-    Call { name: "read_u16", width: 2, writes: false, ours: |s, place, _, out| calls::read_u16(s, place, out) },
-    Call { name: "read_u32", width: 4, writes: false, ours: |s, place, _, out| calls::read_u32(s, place, out) },
+    Call { name: "read_u16", width: 2, writes: false, ours: |s, place, _, out| calls::read_u16(place, s, out) },
+    Call { name: "read_u32", width: 4, writes: false, ours: |s, place, _, out| calls::read_u32(place, s, out) },
     Call {
         name: "write_u16",
         width: 2,
         writes: true,
         // a case of width 2 holds no larger number
-        ours: |s, place, n, out| calls::write_u16(s, place, n as u16, out),
+        ours: |s, place, n, out| calls::write_u16(place, n as u16, s, out),
     },
-    Call { name: "write_u32", width: 4, writes: true, ours: |s, place, n, out| calls::write_u32(s, place, n, out) },
+    Call { name: "write_u32", width: 4, writes: true, ours: |s, place, n, out| calls::write_u32(place, n, s, out) },
 ];
 
 #[derive(Clone)]

@@ -66,7 +66,7 @@ fn by_document(case: &Value, answer: &mut Answer) -> bool {
         4 => n(index),
         5 => n(index + 8),
         unknown => {
-            answer.said.refuses(5, &[0, unknown.into()]);
+            answer.said.refuses(100, &[0, unknown.into()]);
             return true;
         }
     };

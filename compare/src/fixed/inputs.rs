@@ -10,7 +10,7 @@ pub fn each<const N: usize>(call: Call, random: &mut Random, mut check: impl FnM
     match call {
         Call::New => check(&fresh(call, 0, Vec::new(), random)),
         Call::Push => sizes(N).for_each(|size| check(&fresh(call, size, Vec::new(), random))),
-        Call::Len => (0..=u16::MAX).for_each(|size| check(&fresh(call, size, Vec::new(), random))),
+        Call::WireLen => (0..=u16::MAX).for_each(|size| check(&fresh(call, size, Vec::new(), random))),
         Call::Extend | Call::Held | Call::Marshal => {
             for size in sizes(N) {
                 for len in edges::near(&[0, fit(call, N, size), N, LONG]) {

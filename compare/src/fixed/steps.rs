@@ -48,8 +48,8 @@ where
         for step in &self.0 {
             answer.said = Said::NOTHING;
             answer.call(|[data], out| match step {
-                Step::Push(byte) => Data::push(size, array::<N>(data), *byte, out),
-                Step::Extend(bytes) => Data::extend(size, array::<N>(data), bytes, out),
+                Step::Push(byte) => Data::push(*byte, size, array::<N>(data), out),
+                Step::Extend(bytes) => Data::extend(bytes, size, array::<N>(data), out),
             });
             if answer.said.number() == 0 {
                 size = answer.said.values().next().map_or(size, |size| size as u16);

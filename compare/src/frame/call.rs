@@ -240,7 +240,7 @@ pub static CALLS: [Call; 24] = [
         name: "frame_set_tag",
         kind: Kind::Setter,
         numbered: true,
-        ours: |s, n, _, out| calls::frame_set_tag(s, n as u16, out),
+        ours: |s, n, _, out| calls::frame_set_tag(n as u16, s, out),
         rules: |s, n, _, out| rules::frame_set_tag(s, n as u16, out),
         #[cfg(oracle)]
         theirs: |s, n, _, out| oracle::frame_set_tag(s, n as u16, out),
@@ -249,7 +249,7 @@ pub static CALLS: [Call; 24] = [
         name: "command_set_cc",
         kind: Kind::Setter,
         numbered: true,
-        ours: |s, n, _, out| calls::command_set_cc(s, n, out),
+        ours: |s, n, _, out| calls::command_set_cc(n, s, out),
         rules: |s, n, _, out| rules::command_set_cc(s, n, out),
         #[cfg(oracle)]
         theirs: |s, n, _, out| oracle::command_set_cc(s, n, out),
@@ -258,7 +258,7 @@ pub static CALLS: [Call; 24] = [
         name: "response_set_rc",
         kind: Kind::Setter,
         numbered: true,
-        ours: |s, n, _, out| calls::response_set_rc(s, n, out),
+        ours: |s, n, _, out| calls::response_set_rc(n, s, out),
         rules: |s, n, _, out| rules::response_set_rc(s, n, out),
         #[cfg(oracle)]
         theirs: |s, n, _, out| oracle::response_set_rc(s, n, out),

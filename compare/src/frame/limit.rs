@@ -5,7 +5,7 @@
 
 use super::oracle;
 use crate::answer::{Kept, keep};
-use crate::calls::{self, Out};
+use crate::calls::{self, OFFSET, Out};
 use crate::oracle::put;
 use std::sync::atomic::{AtomicU64, Ordering};
 use tpm2_protocol::TpmResult;
@@ -47,7 +47,7 @@ fn limited(
 ) -> Option<u32> {
     let mut their_out = *out;
     let number = said(kept, &mut their_out)?;
-    let reached = |place: &u64| number == 0 || their_out[0] >= *place;
+    let reached = |place: &u64| number == 0 || their_out[OFFSET] >= *place;
     // other numbers come before any entry
     let fourth = if matches!(number, 0 | 1 | 6) { fourth().filter(reached) } else { None };
     if let Some(place) = fourth {

@@ -2,7 +2,7 @@
 //! The last column is text for readers: it must be what our own answer becomes when it is told in those words.
 
 use super::{Desks, ask_command, ask_response, read};
-use crate::calls::{self, Frame, Out, Parts, Span};
+use crate::calls::{self, Frame, OFFSET, Out, Parts, Span};
 use crate::frame::{named, real};
 use std::path::Path;
 
@@ -86,7 +86,7 @@ fn answered(what: &str) -> u32 {
 
 fn refusal(number: u32, out: &Out) -> String {
     let fields = if matches!(number, 1 | 6) { 3 } else { 2 };
-    let fields: Vec<String> = out[..fields].iter().map(u64::to_string).collect();
+    let fields: Vec<String> = out[OFFSET..][..fields].iter().map(u64::to_string).collect();
     format!("{number}({})", fields.join(","))
 }
 

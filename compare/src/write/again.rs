@@ -4,7 +4,7 @@
 
 use super::{Desk, Kind};
 use crate::answer::Hex;
-use crate::calls::{self, Frame, Handed, Span};
+use crate::calls::{self, Frame, Handed, OFFSET, Span};
 use crate::frame::make::{self, PLAIN, SESSIONS};
 use crate::judge::RULES;
 
@@ -70,7 +70,7 @@ impl Again {
         let as_it_should = match (without_entry, kind) {
             (false, _) => said == 0 && out[0] == s.len() as u64 && room == s,
             (true, Kind::Command) => {
-                said == 3 && out[..2] == [0, SESSIONS.into()] && room.iter().all(|&byte| byte == UNWRITTEN)
+                said == 3 && out[OFFSET..][..2] == [0, SESSIONS.into()] && room.iter().all(|&byte| byte == UNWRITTEN)
             }
             (true, Kind::Response) => said == 0 && out[0] == s.len() as u64 - 4 && room == plain(s, frame),
         };

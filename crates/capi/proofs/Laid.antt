@@ -8,7 +8,7 @@ use Rattle.buffer.specs.Fixed.{Buffer, new, roomAfter, unmarshalled}
 use Rattle.buffer.specs.View.{prefix}
 use Rattle.buffer.proofs.Rooms.{read-done, read-refused}
 use Rattle.capi.specs.Buffer.{laid, sizeAlone, sizeAndWire}
-use Rattle.capi.specs.Out.{Reports, first, fields, storedOver}
+use Rattle.capi.specs.Out.{Reports, first, answerOver, refusalOver}
 use Rattle.capi.proofs.Reported.{answered, refused}
 
 laid-said : (b : Buffer) (said : Said Buffer) → laid (done said) (after b said) ≡ said
@@ -31,13 +31,13 @@ module _ (rest : List ℕ) where
 
 -- what is reported of a TPM2B at the start of s, and what the lent room is later
 module _ (capacity : ℕ) (s old rest : List ℕ) where
-  pub unread : (why : List ℕ) (r : ℕ) (later : List ℕ) → refuses why ≡ prefix capacity s → (r ≡ first why) × (later ≡ storedOver (fields why) old)
+  pub unread : (why : List ℕ) (r : ℕ) (later : List ℕ) → refuses why ≡ prefix capacity s → (r ≡ first why) × (later ≡ refusalOver why old)
       → Reports sizeAndWire (prefix capacity s) old later r × (rest ≡ roomAfter rest (unmarshalled capacity s))
   unread why r later e p = (refused sizeAndWire (prefix capacity s) old why r later e p, ap (roomAfter rest) (read-refused capacity s e))
 
   -- a buffer that was read of n bytes has n less its length field
   pub read-in : (n : ℕ) (b : Buffer) → gives n ≡ prefix capacity s → b ≡ after (new capacity) (unmarshalled capacity s)
-      → Reports sizeAndWire (prefix capacity s) old (storedOver (b .size ∷ n ∷ []) old) 0 × (b .room ≡ roomAfter rest (unmarshalled capacity s))
+      → Reports sizeAndWire (prefix capacity s) old (answerOver (b .size ∷ n ∷ []) old) 0 × (b .room ≡ roomAfter rest (unmarshalled capacity s))
   read-in n b e p =
       let read = read-done capacity s e in
       let is = p ∙ ap (after (new capacity)) (sym read) in

@@ -4,20 +4,20 @@ use mathlib.Core.Path.{_≡_, _∙_, ap, subst}
 use mathlib.Core.List.{List}
 use Prim.Native.Nat.{ℕ}
 use Rattle.base.specs.Said.{Said, gives, refuses}
-use Rattle.capi.specs.Out.{first, fields, returned, values, storedOver, Reports}
+use Rattle.capi.specs.Out.{first, returned, answerOver, refusalOver, reportedOver, Reports}
 
 module _ {A : Type 0} (of : A → List ℕ) (said : Said A) (old : List ℕ) where
-  pub answered : (a : A) → gives a ≡ said → Reports of said old (storedOver (of a) old) 0
-  answered a e = record { status = ap returned e; array = ap (λ (t : Said A). storedOver (values of t) old) e }
+  pub answered : (a : A) → gives a ≡ said → Reports of said old (answerOver (of a) old) 0
+  answered a e = record { status = ap returned e; array = ap (λ (t : Said A). reportedOver of t old) e }
 
   -- the same where another function stored the numbers
-  pub answered-by : (a : A) (r : ℕ) (later : List ℕ) → gives a ≡ said → (r ≡ 0) × (later ≡ storedOver (of a) old) → Reports of said old later r
+  pub answered-by : (a : A) (r : ℕ) (later : List ℕ) → gives a ≡ said → (r ≡ 0) × (later ≡ answerOver (of a) old) → Reports of said old later r
   answered-by a r later e p =
       let told = answered a e in
       record { status = p .0 ∙ told .status; array = p .1 ∙ told .array }
 
-  pub refused : (why : List ℕ) (r : ℕ) (later : List ℕ) → refuses why ≡ said → (r ≡ first why) × (later ≡ storedOver (fields why) old) → Reports of said old later r
-  refused why r later e p = record { status = p .0 ∙ ap returned e; array = p .1 ∙ ap (λ (t : Said A). storedOver (values of t) old) e }
+  pub refused : (why : List ℕ) (r : ℕ) (later : List ℕ) → refuses why ≡ said → (r ≡ first why) × (later ≡ refusalOver why old) → Reports of said old later r
+  refused why r later e p = record { status = p .0 ∙ ap returned e; array = p .1 ∙ ap (λ (t : Said A). reportedOver of t old) e }
 
 -- what was reported of an answer is reported of what the answer says
 pub as-said : {A : Type 0} {of : A → List ℕ} {x y : Said A} {old later : List ℕ} {r : ℕ} → x ≡ y → Reports of x old later r → Reports of y old later r

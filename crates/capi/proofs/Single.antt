@@ -39,8 +39,8 @@ use Rattle.capi.proofs.tpm2b.skein_tpm2b_len.Kinds as skein-tpm2b-len-k
 use Rattle.capi.proofs.tpm2b.skein_tpm2b_len.Reads as skein-tpm2b-len-reads
 use Rattle.capi.proofs.buffer64.skein_buffer64_new.Kinds as skein-buffer64-new-kinds
 use Rattle.capi.proofs.buffer64.skein_buffer64_new.Reads as skein-buffer64-new-reads
-use Rattle.capi.proofs.buffer64.skein_buffer64_len.Kinds as skein-buffer64-len-kinds
-use Rattle.capi.proofs.buffer64.skein_buffer64_len.Reads as skein-buffer64-len-reads
+use Rattle.capi.proofs.buffer64.skein_buffer64_wire_len.Kinds as skein-buffer64-wire-len-kinds
+use Rattle.capi.proofs.buffer64.skein_buffer64_wire_len.Reads as skein-buffer64-wire-len-reads
 use Rattle.capi.proofs.buffer64.skein_buffer64_held.Kinds as skein-buffer64-held-kinds
 use Rattle.capi.proofs.buffer64.skein_buffer64_held.Reads as skein-buffer64-held-reads
 use Rattle.capi.proofs.buffer64.skein_buffer64_marshal.Kinds as skein-buffer64-marshal-kinds
@@ -57,8 +57,8 @@ use Rattle.capi.proofs.buffer64.skein_buffer64_unmarshal.Kinds as skein
 use Rattle.capi.proofs.buffer64.skein_buffer64_unmarshal.Reads as skein-buffer64-unmarshal-reads
 use Rattle.capi.proofs.buffer1024.skein_buffer1024_new.Kinds as skein-buffer1024-new-kinds
 use Rattle.capi.proofs.buffer1024.skein_buffer1024_new.Reads as skein-buffer1024-new-reads
-use Rattle.capi.proofs.buffer1024.skein_buffer1024_len.Kinds as skein-buffer1024-len-kinds
-use Rattle.capi.proofs.buffer1024.skein_buffer1024_len.Reads as skein-buffer1024-len-reads
+use Rattle.capi.proofs.buffer1024.skein_buffer1024_wire_len.Kinds as skein-buffer1024-wire-len-kinds
+use Rattle.capi.proofs.buffer1024.skein_buffer1024_wire_len.Reads as skein-buffer1024-wire-len-reads
 use Rattle.capi.proofs.buffer1024.skein_buffer1024_held.Kinds as skein-buffer1024-held-kinds
 use Rattle.capi.proofs.buffer1024.skein_buffer1024_held.Reads as skein-buffer1024-held-reads
 use Rattle.capi.proofs.buffer1024.skein_buffer1024_marshal.Kinds as skein-buffer1024-marshal-kinds
@@ -138,13 +138,13 @@ skein-read-u16 : Single 2 skein-read-u16-kinds.ps skein-read-u16-kinds.r skein-r
 skein-read-u16 κs a x y v w p q = (status p q, λ i. (tt, (tt, (array p q i, tt))))
 
 skein-write-u16 : Single 2 skein-write-u16-kinds.ps skein-write-u16-kinds.r skein-write-u16-reads.Post
-skein-write-u16 κs a x y v w p q = (status (p .0) (q .0), λ i. ((p .1 ∙ sym (q .1)) i, (tt, (tt, (array (p .0) (q .0) i, tt)))))
+skein-write-u16 κs a x y v w p q = (status (p .0) (q .0), λ i. (tt, (tt, ((p .1 ∙ sym (q .1)) i, (array (p .0) (q .0) i, tt)))))
 
 skein-read-u32 : Single 2 skein-read-u32-kinds.ps skein-read-u32-kinds.r skein-read-u32-reads.Post
 skein-read-u32 κs a x y v w p q = (status p q, λ i. (tt, (tt, (array p q i, tt))))
 
 skein-write-u32 : Single 2 skein-write-u32-kinds.ps skein-write-u32-kinds.r skein-write-u32-reads.Post
-skein-write-u32 κs a x y v w p q = (status (p .0) (q .0), λ i. ((p .1 ∙ sym (q .1)) i, (tt, (tt, (array (p .0) (q .0) i, tt)))))
+skein-write-u32 κs a x y v w p q = (status (p .0) (q .0), λ i. (tt, (tt, ((p .1 ∙ sym (q .1)) i, (array (p .0) (q .0) i, tt)))))
 
 skein-rc-read : Single 1 skein-rc-read-kinds.ps skein-rc-read-kinds.r skein-rc-read-reads.Post
 skein-rc-read κs a x y v w p q = (status p q, λ i. (tt, (array p q i, tt)))
@@ -179,8 +179,8 @@ skein-tpm2b-len κs a x y v w p q = (status p q, λ i. (tt, (array p q i, tt)))
 skein-buffer64-new : Single 2 skein-buffer64-new-kinds.ps skein-buffer64-new-kinds.r skein-buffer64-new-reads.Post
 skein-buffer64-new κs a x y v w p q = (status (p .0) (q .0), λ i. ((p .1 ∙ sym (q .1)) i, (array (p .0) (q .0) i, tt)))
 
-skein-buffer64-len : Single 1 skein-buffer64-len-kinds.ps skein-buffer64-len-kinds.r skein-buffer64-len-reads.Post
-skein-buffer64-len κs a x y v w p q = (status p q, λ i. (tt, (array p q i, tt)))
+skein-buffer64-wire-len : Single 1 skein-buffer64-wire-len-kinds.ps skein-buffer64-wire-len-kinds.r skein-buffer64-wire-len-reads.Post
+skein-buffer64-wire-len κs a x y v w p q = (status p q, λ i. (tt, (array p q i, tt)))
 
 skein-buffer64-held : Single 3 skein-buffer64-held-kinds.ps skein-buffer64-held-kinds.r skein-buffer64-held-reads.Post
 skein-buffer64-held κs a x y v w p q = (status (p .0) (q .0), λ i. (tt, (tt, ((p .1 ∙ sym (q .1)) i, (array (p .0) (q .0) i, tt)))))
@@ -192,10 +192,10 @@ skein-buffer64-eq : Single 3 skein-buffer64-eq-kinds.ps skein-buffer64-eq-kinds.
 skein-buffer64-eq κs a x y v w p q = (status p q, λ i. (tt, (tt, (tt, (tt, (array p q i, tt))))))
 
 skein-buffer64-push : Single 2 skein-buffer64-push-kinds.ps skein-buffer64-push-kinds.r skein-buffer64-push-reads.Post
-skein-buffer64-push κs a x y v w p q = (status (p .0) (q .0), λ i. (tt, ((p .1 ∙ sym (q .1)) i, (tt, (array (p .0) (q .0) i, tt)))))
+skein-buffer64-push κs a x y v w p q = (status (p .0) (q .0), λ i. (tt, (tt, ((p .1 ∙ sym (q .1)) i, (array (p .0) (q .0) i, tt)))))
 
 skein-buffer64-extend : Single 3 skein-buffer64-extend-kinds.ps skein-buffer64-extend-kinds.r skein-buffer64-extend-reads.Post
-skein-buffer64-extend κs a x y v w p q = (status (p .0) (q .0), λ i. (tt, ((p .1 ∙ sym (q .1)) i, (tt, (array (p .0) (q .0) i, tt)))))
+skein-buffer64-extend κs a x y v w p q = (status (p .0) (q .0), λ i. (tt, (tt, ((p .1 ∙ sym (q .1)) i, (array (p .0) (q .0) i, tt)))))
 
 skein-buffer64-from-slice : Single 3 skein-buffer64-from-slice-kinds.ps skein-buffer64-from-slice-kinds.r skein-buffer64-from-slice-reads.Post
 skein-buffer64-from-slice κs a x y v w p q = (status (p .0) (q .0), λ i. (tt, ((p .1 ∙ sym (q .1)) i, (array (p .0) (q .0) i, tt))))
@@ -206,8 +206,8 @@ skein-buffer64-unmarshal κs a x y v w p q = (status (p .0) (q .0), λ i. (tt, (
 skein-buffer1024-new : Single 2 skein-buffer1024-new-kinds.ps skein-buffer1024-new-kinds.r skein-buffer1024-new-reads.Post
 skein-buffer1024-new κs a x y v w p q = (status (p .0) (q .0), λ i. ((p .1 ∙ sym (q .1)) i, (array (p .0) (q .0) i, tt)))
 
-skein-buffer1024-len : Single 1 skein-buffer1024-len-kinds.ps skein-buffer1024-len-kinds.r skein-buffer1024-len-reads.Post
-skein-buffer1024-len κs a x y v w p q = (status p q, λ i. (tt, (array p q i, tt)))
+skein-buffer1024-wire-len : Single 1 skein-buffer1024-wire-len-kinds.ps skein-buffer1024-wire-len-kinds.r skein-buffer1024-wire-len-reads.Post
+skein-buffer1024-wire-len κs a x y v w p q = (status p q, λ i. (tt, (array p q i, tt)))
 
 skein-buffer1024-held : Single 3 skein-buffer1024-held-kinds.ps skein-buffer1024-held-kinds.r skein-buffer1024-held-reads.Post
 skein-buffer1024-held κs a x y v w p q = (status (p .0) (q .0), λ i. (tt, (tt, ((p .1 ∙ sym (q .1)) i, (array (p .0) (q .0) i, tt)))))
@@ -219,10 +219,10 @@ skein-buffer1024-eq : Single 3 skein-buffer1024-eq-kinds.ps skein-buffer1024-eq-
 skein-buffer1024-eq κs a x y v w p q = (status p q, λ i. (tt, (tt, (tt, (tt, (array p q i, tt))))))
 
 skein-buffer1024-push : Single 2 skein-buffer1024-push-kinds.ps skein-buffer1024-push-kinds.r skein-buffer1024-push-reads.Post
-skein-buffer1024-push κs a x y v w p q = (status (p .0) (q .0), λ i. (tt, ((p .1 ∙ sym (q .1)) i, (tt, (array (p .0) (q .0) i, tt)))))
+skein-buffer1024-push κs a x y v w p q = (status (p .0) (q .0), λ i. (tt, (tt, ((p .1 ∙ sym (q .1)) i, (array (p .0) (q .0) i, tt)))))
 
 skein-buffer1024-extend : Single 3 skein-buffer1024-extend-kinds.ps skein-buffer1024-extend-kinds.r skein-buffer1024-extend-reads.Post
-skein-buffer1024-extend κs a x y v w p q = (status (p .0) (q .0), λ i. (tt, ((p .1 ∙ sym (q .1)) i, (tt, (array (p .0) (q .0) i, tt)))))
+skein-buffer1024-extend κs a x y v w p q = (status (p .0) (q .0), λ i. (tt, (tt, ((p .1 ∙ sym (q .1)) i, (array (p .0) (q .0) i, tt)))))
 
 skein-buffer1024-from-slice : Single 3 skein-buffer1024-from-slice-kinds.ps skein-buffer1024-from-slice-kinds.r skein-buffer1024-from-slice-reads.Post
 skein-buffer1024-from-slice κs a x y v w p q = (status (p .0) (q .0), λ i. (tt, ((p .1 ∙ sym (q .1)) i, (array (p .0) (q .0) i, tt))))
@@ -252,7 +252,7 @@ skein-frame-is-empty : Single 2 skein-frame-is-empty-kinds.ps skein-frame-is-emp
 skein-frame-is-empty κs a x y v w p q = (status p q, λ i. (tt, (array p q i, tt)))
 
 skein-frame-set-tag : Single 2 skein-frame-set-tag-kinds.ps skein-frame-set-tag-kinds.r skein-frame-set-tag-reads.Post
-skein-frame-set-tag κs a x y v w p q = (status (p .0) (q .0), λ i. ((p .1 ∙ sym (q .1)) i, (tt, (array (p .0) (q .0) i, tt))))
+skein-frame-set-tag κs a x y v w p q = (status (p .0) (q .0), λ i. (tt, ((p .1 ∙ sym (q .1)) i, (array (p .0) (q .0) i, tt))))
 
 skein-command-cast : Single 2 skein-command-cast-kinds.ps skein-command-cast-kinds.r skein-command-cast-reads.Post
 skein-command-cast κs a x y v w p q = (status p q, λ i. (tt, (array p q i, tt)))
@@ -276,7 +276,7 @@ skein-command-cc : Single 2 skein-command-cc-kinds.ps skein-command-cc-kinds.r s
 skein-command-cc κs a x y v w p q = (status p q, λ i. (tt, (array p q i, tt)))
 
 skein-command-set-cc : Single 2 skein-command-set-cc-kinds.ps skein-command-set-cc-kinds.r skein-command-set-cc-reads.Post
-skein-command-set-cc κs a x y v w p q = (status (p .0) (q .0), λ i. ((p .1 ∙ sym (q .1)) i, (tt, (array (p .0) (q .0) i, tt))))
+skein-command-set-cc κs a x y v w p q = (status (p .0) (q .0), λ i. (tt, ((p .1 ∙ sym (q .1)) i, (array (p .0) (q .0) i, tt))))
 
 skein-command-parts : Single 2 skein-command-parts-kinds.ps skein-command-parts-kinds.r skein-command-parts-reads.Post
 skein-command-parts κs a x y v w p q = (
@@ -306,7 +306,7 @@ skein-response-validate : Single 2 skein-response-validate-kinds.ps skein-respon
 skein-response-validate κs a x y v w p q = (status p q, λ i. (tt, (tt, (array p q i, tt))))
 
 skein-response-set-rc : Single 2 skein-response-set-rc-kinds.ps skein-response-set-rc-kinds.r skein-response-set-rc-reads.Post
-skein-response-set-rc κs a x y v w p q = (status (p .0) (q .0), λ i. ((p .1 ∙ sym (q .1)) i, (tt, (array (p .0) (q .0) i, tt))))
+skein-response-set-rc κs a x y v w p q = (status (p .0) (q .0), λ i. (tt, ((p .1 ∙ sym (q .1)) i, (array (p .0) (q .0) i, tt))))
 
 skein-response-parts : Single 2 skein-response-parts-kinds.ps skein-response-parts-kinds.r skein-response-parts-reads.Post
 skein-response-parts κs a x y v w p q = (

@@ -1,4 +1,5 @@
--- What C is given of an answer: a number, 0 for an answer and else the refusal's, and the numbers that go into the lent array.
+-- What C is given of an answer: a number, 0 for an answer and else the refusal's, and the numbers that go into the lent array,
+-- each at a place of its own: an answer's four places are never a refusal's.
 -- Assumes nothing: these are definitions.
 use Prim.Native.Nat.{ℕ}
 use mathlib.Core.Path.{_≡_}
@@ -21,11 +22,6 @@ abbrev pub returned : {A : Type 0} → Said A → ℕ
 returned (gives a) = 0
 returned (refuses why) = first why
 
--- the numbers to report, where an answer's own are told by `of`
-abbrev pub values : {A : Type 0} → (A → List ℕ) → Said A → List ℕ
-values of (gives a) = of a
-values of (refuses why) = fields why
-
 abbrev pub one : ℕ → List ℕ
 one n = n ∷ []
 
@@ -39,11 +35,19 @@ ends p = p .from ∷ p .to ∷ []
 abbrev pub none : {A : Type 0} → A → List ℕ
 none a = []
 
--- the array later: what is reported, stored from its first place on, over what was there
-abbrev pub storedOver : List ℕ → List ℕ → List ℕ
-storedOver new old = sets old 0 new
+-- an answer's numbers stand from the first place on, over what was there; a refusal's fields from the place of the offset on
+abbrev pub answerOver : List ℕ → List ℕ → List ℕ
+answerOver numbers old = sets old 0 numbers
+
+abbrev pub refusalOver : List ℕ → List ℕ → List ℕ
+refusalOver why old = sets old 4 (fields why)
+
+-- the array later, where an answer's own numbers are told by `of`
+abbrev pub reportedOver : {A : Type 0} → (A → List ℕ) → Said A → List ℕ → List ℕ
+reportedOver of (gives a) old = answerOver (of a) old
+reportedOver of (refuses why) old = refusalOver why old
 
 -- a call returns r and leaves the array, which was old, as later: it reports what is said
 pub record Reports {A : Type 0} (of : A → List ℕ) (said : Said A) (old later : List ℕ) (r : ℕ) : Type 0 where
   pub status : r ≡ returned said
-  pub array : later ≡ storedOver (values of said) old
+  pub array : later ≡ reportedOver of said old

@@ -37,7 +37,7 @@ pub extern "C" fn skein_buffer64_new(data: &mut Room, out: &mut Numbers) -> u32
 }
 
 #[no_mangle]
-pub extern "C" fn skein_buffer64_len(size: u16, out: &mut Numbers) -> u32
+pub extern "C" fn skein_buffer64_wire_len(size: u16, out: &mut Numbers) -> u32
     ensures { λ r. ⌜ Reports one (wireLength 64 size) (now (out .entry)) (now (out .exit)) r ⌝ }
 {
     let data = [0; 64];
@@ -103,9 +103,9 @@ fn lay(extended: Extended64, data: &mut Room, out: &mut Numbers) -> u32
 
 #[no_mangle]
 pub extern "C" fn skein_buffer64_push(
+    byte: u8,
     size: u16,
     data: &mut Room,
-    byte: u8,
     out: &mut Numbers,
 ) -> u32
     ensures { λ r. ⌜ Reports sizeAlone (extended 64 (byte ∷ []) (record-of size (now («data» .entry)))) (now (out .entry)) (now (out .exit)) r ⌝ }
@@ -116,9 +116,9 @@ pub extern "C" fn skein_buffer64_push(
 
 #[no_mangle]
 pub extern "C" fn skein_buffer64_extend(
+    s: &[u8],
     size: u16,
     data: &mut Room,
-    s: &[u8],
     out: &mut Numbers,
 ) -> u32
     ensures { λ r. ⌜ Reports one (sizeSaid (extended 64 (now (s .entry)) (record-of size (now («data» .entry))))) (now (out .entry)) (now (out .exit)) r ⌝ }

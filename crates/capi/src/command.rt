@@ -71,11 +71,11 @@ pub extern "C" fn skein_command_cc(s: &[u8], out: &mut Numbers) -> u32
 }
 
 #[no_mangle]
-pub extern "C" fn skein_command_set_cc(s: &mut [u8], code: u32, out: &mut Numbers) -> u32
-    ensures { λ r. ⌜ Reports none (done (setCc dispatch code (now (s .entry)))) (now (out .entry)) (now (out .exit)) r ⌝ }
-    ensures { λ r. ⌜ now (s .exit) ≡ after (now (s .entry)) (setCc dispatch code (now (s .entry))) ⌝ }
+pub extern "C" fn skein_command_set_cc(cc: u32, s: &mut [u8], out: &mut Numbers) -> u32
+    ensures { λ r. ⌜ Reports none (done (setCc dispatch cc (now (s .entry)))) (now (out .entry)) (now (out .exit)) r ⌝ }
+    ensures { λ r. ⌜ now (s .exit) ≡ after (now (s .entry)) (setCc dispatch cc (now (s .entry))) ⌝ }
 {
-    out::outcome(frame::command::set_cc(s, TpmCc(code)), out)
+    out::outcome(frame::command::set_cc(s, TpmCc(cc)), out)
 }
 
 // All parts by value, behind the number that the other calls return; the array takes a refusal's fields alone.

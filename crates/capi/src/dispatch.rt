@@ -15,20 +15,20 @@ use table::row::Found;
 
 // The handles and the response handles of a command's row.
 #[no_mangle]
-pub extern "C" fn skein_table_find(code: u32, out: &mut Numbers) -> u32
-    ensures { λ r. ⌜ Reports handleCounts (rowFor dispatch code) (now (out .entry)) (now (out .exit)) r ⌝ }
+pub extern "C" fn skein_table_find(cc: u32, out: &mut Numbers) -> u32
+    ensures { λ r. ⌜ Reports handleCounts (rowFor dispatch cc) (now (out .entry)) (now (out .exit)) r ⌝ }
 {
-    match table::dispatch::find(TpmCc(code)) {
-        Found::Is(row) => out::two(0, row.handles as usize, row.responses as u64, out),
+    match table::dispatch::find(TpmCc(cc)) {
+        Found::Is(row) => out::pair(row.handles as u64, row.responses as u64, out),
         Found::Refused(e) => out::refuse(e, out),
     }
 }
 
 #[no_mangle]
-pub extern "C" fn skein_table_known(code: u32, out: &mut Numbers) -> u32
-    ensures { λ r. ⌜ Reports truth (gives (isIn code commandCodes)) (now (out .entry)) (now (out .exit)) r ⌝ }
+pub extern "C" fn skein_table_known(cc: u32, out: &mut Numbers) -> u32
+    ensures { λ r. ⌜ Reports truth (gives (isIn cc commandCodes)) (now (out .entry)) (now (out .exit)) r ⌝ }
 {
-    out::flag(Flag::Is(table::dispatch::cc_known(TpmCc(code))), out)
+    out::flag(Flag::Is(table::dispatch::cc_known(TpmCc(cc))), out)
 }
 
 #[no_mangle]

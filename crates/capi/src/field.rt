@@ -7,21 +7,21 @@ use crate::out;
 use crate::out::Numbers;
 
 #[no_mangle]
-pub extern "C" fn skein_read_u16(s: &[u8], place: usize, out: &mut Numbers) -> u32
+pub extern "C" fn skein_read_u16(place: usize, s: &[u8], out: &mut Numbers) -> u32
     ensures { λ r. ⌜ Reports one (readField 2 place (now (s .entry))) (now (out .entry)) (now (out .exit)) r ⌝ }
 {
     out::number16(base::field::read_u16(s, place), out)
 }
 
 #[no_mangle]
-pub extern "C" fn skein_read_u32(s: &[u8], place: usize, out: &mut Numbers) -> u32
+pub extern "C" fn skein_read_u32(place: usize, s: &[u8], out: &mut Numbers) -> u32
     ensures { λ r. ⌜ Reports one (readField 4 place (now (s .entry))) (now (out .entry)) (now (out .exit)) r ⌝ }
 {
     out::number32(base::field::read_u32(s, place), out)
 }
 
 #[no_mangle]
-pub extern "C" fn skein_write_u16(s: &mut [u8], place: usize, n: u16, out: &mut Numbers) -> u32
+pub extern "C" fn skein_write_u16(place: usize, n: u16, s: &mut [u8], out: &mut Numbers) -> u32
     ensures { λ r. ⌜ Reports none (done (writeField 2 place n (now (s .entry)))) (now (out .entry)) (now (out .exit)) r ⌝ }
     ensures { λ r. ⌜ now (s .exit) ≡ after (now (s .entry)) (writeField 2 place n (now (s .entry))) ⌝ }
 {
@@ -29,7 +29,7 @@ pub extern "C" fn skein_write_u16(s: &mut [u8], place: usize, n: u16, out: &mut 
 }
 
 #[no_mangle]
-pub extern "C" fn skein_write_u32(s: &mut [u8], place: usize, n: u32, out: &mut Numbers) -> u32
+pub extern "C" fn skein_write_u32(place: usize, n: u32, s: &mut [u8], out: &mut Numbers) -> u32
     ensures { λ r. ⌜ Reports none (done (writeField 4 place n (now (s .entry)))) (now (out .entry)) (now (out .exit)) r ⌝ }
     ensures { λ r. ⌜ now (s .exit) ≡ after (now (s .entry)) (writeField 4 place n (now (s .entry))) ⌝ }
 {

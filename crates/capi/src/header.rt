@@ -26,7 +26,7 @@ pub extern "C" fn skein_frame_size(s: &[u8], out: &mut Numbers) -> u32
 }
 
 #[no_mangle]
-pub extern "C" fn skein_frame_set_tag(s: &mut [u8], tag: u16, out: &mut Numbers) -> u32
+pub extern "C" fn skein_frame_set_tag(tag: u16, s: &mut [u8], out: &mut Numbers) -> u32
     ensures { λ r. ⌜ Reports none (done (setTag tag (now (s .entry)))) (now (out .entry)) (now (out .exit)) r ⌝ }
     ensures { λ r. ⌜ now (s .exit) ≡ after (now (s .entry)) (setTag tag (now (s .entry))) ⌝ }
 {

@@ -4,7 +4,7 @@ ghost use mathlib.Core.List.{[], _∷_};
 ghost use Rattle.base.specs.Error.{numbered};
 ghost use Rattle.base.specs.Answer.{saidCommandCode, saidCount, saidFlag, saidNumber16, saidNumber32, saidOutcome, saidRange, saidResponseCode, saidTag};
 ghost use Rattle.capi.specs.Frame.{partAndTail};
-ghost use Rattle.capi.specs.Out.{Reports, ends, fields, first, none, one, storedOver, truth};
+ghost use Rattle.capi.specs.Out.{Reports, answerOver, ends, first, none, one, refusalOver, truth};
 use base::answer::CommandCode;
 use base::answer::Count;
 use base::answer::Flag;
@@ -16,32 +16,32 @@ use base::answer::ResponseCode;
 use base::answer::Tag;
 use base::error::TpmError;
 
-// The lent array that takes an answer's numbers or a refusal's fields.
+// The lent array: an answer's numbers from place 0 on, at most four; a refusal's fields from place 4 on.
 pub type Numbers = [u64; 8];
 
-fn three(number: u32, a: usize, b: usize, c: usize, out: &mut Numbers) -> u32
+fn three(number: u32, offset: usize, b: usize, c: usize, out: &mut Numbers) -> u32
     ensures { λ r. ⌜ r ≡ number ⌝ }
-    ensures { λ r. ⌜ now (out .exit) ≡ storedOver (a ∷ b ∷ c ∷ []) (now (out .entry)) ⌝ }
+    ensures { λ r. ⌜ now (out .exit) ≡ refusalOver (number ∷ offset ∷ b ∷ c ∷ []) (now (out .entry)) ⌝ }
 {
-    out[0] = a as u64;
-    out[1] = b as u64;
-    out[2] = c as u64;
+    out[4] = offset as u64;
+    out[5] = b as u64;
+    out[6] = c as u64;
     number
 }
 
-pub(crate) fn two(number: u32, a: usize, b: u64, out: &mut Numbers) -> u32
+pub(crate) fn two(number: u32, offset: usize, b: u64, out: &mut Numbers) -> u32
     ensures { λ r. ⌜ r ≡ number ⌝ }
-    ensures { λ r. ⌜ now (out .exit) ≡ storedOver (a ∷ b ∷ []) (now (out .entry)) ⌝ }
+    ensures { λ r. ⌜ now (out .exit) ≡ refusalOver (number ∷ offset ∷ b ∷ []) (now (out .entry)) ⌝ }
 {
-    out[0] = a as u64;
-    out[1] = b;
+    out[4] = offset as u64;
+    out[5] = b;
     number
 }
 
 // A refusal: its number, and its fields into the array.
 pub(crate) fn refuse(e: TpmError, out: &mut Numbers) -> u32
     ensures { λ r. ⌜ r ≡ first (numbered e) ⌝ }
-    ensures { λ r. ⌜ now (out .exit) ≡ storedOver (fields (numbered e)) (now (out .entry)) ⌝ }
+    ensures { λ r. ⌜ now (out .exit) ≡ refusalOver (numbered e) (now (out .entry)) ⌝ }
 {
     match e {
         TpmError::UnexpectedEnd {
@@ -70,6 +70,16 @@ pub(crate) fn refuse(e: TpmError, out: &mut Numbers) -> u32
             available,
         } => three(9, offset, needed, available, out),
     }
+}
+
+// An answer of two numbers.
+pub(crate) fn pair(a: u64, b: u64, out: &mut Numbers) -> u32
+    ensures { λ r. ⌜ r ≡ 0 ⌝ }
+    ensures { λ r. ⌜ now (out .exit) ≡ answerOver (a ∷ b ∷ []) (now (out .entry)) ⌝ }
+{
+    out[0] = a;
+    out[1] = b;
+    0
 }
 
 // The answers that calls share.
@@ -171,7 +181,7 @@ pub(crate) fn range(a: Range, out: &mut Numbers) -> u32
     ensures { λ r. ⌜ Reports ends (saidRange a) (now (out .entry)) (now (out .exit)) r ⌝ }
 {
     match a {
-        Range::Is { from, to } => two(0, from, to as u64, out),
+        Range::Is { from, to } => pair(from as u64, to as u64, out),
         Range::Refused(e) => refuse(e, out),
     }
 }

@@ -51,11 +51,11 @@ pub extern "C" fn skein_response_rc(s: &[u8], out: &mut Numbers) -> u32
 }
 
 #[no_mangle]
-pub extern "C" fn skein_response_set_rc(s: &mut [u8], code: u32, out: &mut Numbers) -> u32
-    ensures { λ r. ⌜ Reports none (done (setRc code (now (s .entry)))) (now (out .entry)) (now (out .exit)) r ⌝ }
-    ensures { λ r. ⌜ now (s .exit) ≡ after (now (s .entry)) (setRc code (now (s .entry))) ⌝ }
+pub extern "C" fn skein_response_set_rc(rc: u32, s: &mut [u8], out: &mut Numbers) -> u32
+    ensures { λ r. ⌜ Reports none (done (setRc rc (now (s .entry)))) (now (out .entry)) (now (out .exit)) r ⌝ }
+    ensures { λ r. ⌜ now (s .exit) ≡ after (now (s .entry)) (setRc rc (now (s .entry))) ⌝ }
 {
-    out::outcome(frame::response::set_rc(s, TpmRc(code)), out)
+    out::outcome(frame::response::set_rc(s, TpmRc(rc)), out)
 }
 
 #[no_mangle]

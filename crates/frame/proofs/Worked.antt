@@ -6,7 +6,7 @@ use mathlib.Core.List.{List, [], _∷_, _++_}
 use Prim.Native.Nat.{ℕ}
 use Rattle.base.specs.Bytes.{number}
 use Rattle.base.specs.Said.{Said, gives, refuses, then}
-use Rattle.rc.specs.Code.{readCode, baseOf, kindOf, indexOf}
+use Rattle.rc.specs.Code.{readCode, baseOf, kindNumber, kindOf, indexOf}
 use Rattle.table.specs.Dispatch.{dispatch, commandCodes}
 use Rattle.table.specs.Tags.{tags}
 use Rattle.base.specs.declared.part.Span.{Span}
@@ -39,7 +39,7 @@ answer (parts-of-command s) =
 answer (validate-response cc s) = then (readResponse dispatch cc s) λ d. gives []
 answer (parts-of-response cc s) =
     then (responseByValue s (readResponse dispatch cc s)) λ r. gives (places (r .handles) (r .auth) (r .parameters))
-answer (read-code n) = then (readCode n) λ c. gives (baseOf c ∷ kindOf c ∷ indexOf c ∷ [])
+answer (read-code n) = then (readCode n) λ c. gives (baseOf c ∷ kindNumber (kindOf c) ∷ indexOf c ∷ [])
 
 -- ---- the frames
 

@@ -179,9 +179,8 @@ one-reading c d w u e = gives-injective (sym (complete c w) ∙ ap readCode e �
 pub read-again : (value : ℕ) (c : Code) → readCode value ≡ gives c → (valueOf c ≡ value) × (readCode (valueOf c) ≡ gives c)
 read-again value c e = let s = sound value c e in (s .1, complete c (s .0))
 
--- a code is told whole by the numbers of its kind, its base and its part
-pub told-by-parts : (c : Code) → ofParts (kindOf c) (baseOf c) (indexOf c) ≡ gives c
-unfolding ofParts
+-- a code is told whole by its kind, its base and the number of its part
+pub told-by-parts : (c : Code) → ofParts (kindOf c) (baseOf c) (indexOf c) ≡ c
 told-by-parts (Fmt0 b) = refl
 told-by-parts (Warn b) = refl
 told-by-parts (Fmt1 b) = refl

@@ -17,6 +17,8 @@ use Rattle.rc.proofs.code.Code.from_parts.Kinds as from-parts-kinds
 use Rattle.rc.proofs.code.Code.from_parts.Reads as from-parts-reads
 use Rattle.rc.proofs.code.Code.kind.Kinds as kind-kinds
 use Rattle.rc.proofs.code.Code.kind.Reads as kind-reads
+use Rattle.rc.proofs.code.Kind.number.Kinds as number-kinds
+use Rattle.rc.proofs.code.Kind.number.Reads as number-reads
 use Rattle.rc.proofs.code.Code.index.Kinds as index-kinds
 use Rattle.rc.proofs.code.Code.index.Reads as index-reads
 use Rattle.rc.proofs.code.Code.base.Kinds as base-kinds
@@ -42,10 +44,13 @@ base : Single 0 base-kinds.ps base-kinds.r base-reads.Post
 base κs a x y v w p q = (λ i. record { 0 = (p ∙ sym q) i }, refl)
 
 from-parts : Single 0 from-parts-kinds.ps from-parts-kinds.r from-parts-reads.Post
-from-parts κs a x y v w p q = (saidCode-injective x y (p ∙ sym q), refl)
+from-parts κs a x y v w p q = (p ∙ sym q, refl)
 
 kind : Single 0 kind-kinds.ps kind-kinds.r kind-reads.Post
 kind κs a x y v w p q = (p ∙ sym q, refl)
+
+number : Single 0 number-kinds.ps number-kinds.r number-reads.Post
+number κs a x y v w p q = (p ∙ sym q, refl)
 
 index : Single 0 index-kinds.ps index-kinds.r index-reads.Post
 index κs a x y v w p q = (p ∙ sym q, refl)

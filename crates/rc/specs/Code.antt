@@ -10,6 +10,8 @@ use Rattle.base.specs.Said.{Said, gives, refuses, needs}
 use Rattle.rc.specs.declared.code.TpmRcBase.{TpmRcBase}
 use Rattle.rc.specs.declared.code.Code.{Code}
 use Rattle.rc.specs.declared.code.Code.the-variants.{Fmt0, Warn, Fmt1, Parameter, Handle, Session}
+use Rattle.rc.specs.declared.code.Kind.{Kind}
+use Rattle.rc.specs.declared.code.Kind.the-variants as k
 use Rattle.rc.specs.declared.code.Answer.{Answer}
 use Rattle.rc.specs.declared.code.Answer.the-variants as r
 use Rattle.rc.specs.Known.{isKnown}
@@ -62,15 +64,23 @@ baseOf (Parameter b n) = b .0
 baseOf (Handle b n) = b .0
 baseOf (Session b n) = b .0
 
--- the number of a code's kind, and of the part that it speaks of, 0 for none
-abbrev pub kindOf : Code → ℕ
-kindOf (Fmt0 b) = 0
-kindOf (Warn b) = 1
-kindOf (Fmt1 b) = 2
-kindOf (Parameter b n) = 3
-kindOf (Handle b n) = 4
-kindOf (Session b n) = 5
+abbrev pub kindOf : Code → Kind
+kindOf (Fmt0 b) = k.Fmt0
+kindOf (Warn b) = k.Warn
+kindOf (Fmt1 b) = k.Fmt1
+kindOf (Parameter b n) = k.Parameter
+kindOf (Handle b n) = k.Handle
+kindOf (Session b n) = k.Session
 
+abbrev pub kindNumber : Kind → ℕ
+kindNumber k.Fmt0 = 0
+kindNumber k.Warn = 1
+kindNumber k.Fmt1 = 2
+kindNumber k.Parameter = 3
+kindNumber k.Handle = 4
+kindNumber k.Session = 5
+
+-- the number of the part that a code speaks of, 0 for none
 abbrev pub indexOf : Code → ℕ
 indexOf (Fmt0 b) = 0
 indexOf (Warn b) = 0
@@ -79,16 +89,14 @@ indexOf (Parameter b n) = n
 indexOf (Handle b n) = n
 indexOf (Session b n) = n
 
--- the code of a kind's number; there are six kinds
-unfoldable pub ofParts : ℕ → ℕ → ℕ → Said Code
-ofParts kind b n =
-    cond (eqb kind 0) (gives (Fmt0 (base b)))
-    (cond (eqb kind 1) (gives (Warn (base b)))
-    (cond (eqb kind 2) (gives (Fmt1 (base b)))
-    (cond (eqb kind 3) (gives (Parameter (base b) n))
-    (cond (eqb kind 4) (gives (Handle (base b) n))
-    (cond (eqb kind 5) (gives (Session (base b) n))
-    (refuses (5 ∷ 0 ∷ kind ∷ [])))))))
+-- the code of a kind; those without an index take no notice of it
+abbrev pub ofParts : Kind → ℕ → ℕ → Code
+ofParts k.Fmt0 b n = Fmt0 (base b)
+ofParts k.Warn b n = Warn (base b)
+ofParts k.Fmt1 b n = Fmt1 (base b)
+ofParts k.Parameter b n = Parameter (base b) n
+ofParts k.Handle b n = Handle (base b) n
+ofParts k.Session b n = Session (base b) n
 
 abbrev pub saidCode : Answer → Said Code
 saidCode (r.Code c) = gives c

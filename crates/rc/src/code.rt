@@ -2,7 +2,7 @@
 ghost use mathlib.Core.Path.{_≡_};
 ghost use mathlib.Core.Bool.{_&&_};
 ghost use Prim.Native.Nat.{_*_, _%_};
-ghost use Rattle.rc.specs.Code.{baseOf, bit, indexOf, kindOf, ofParts, readCode, readFmt1, saidCode, valueOf};
+ghost use Rattle.rc.specs.Code.{baseOf, bit, indexOf, kindNumber, kindOf, ofParts, readCode, readFmt1, saidCode, valueOf};
 use crate::known::base_known;
 use base::code::TpmRc;
 use base::error::TpmError;
@@ -19,6 +19,16 @@ pub enum Code {
     Parameter(TpmRcBase, u8),
     Handle(TpmRcBase, u8),
     Session(TpmRcBase, u8),
+}
+
+// The kinds of codes, in the order of the variants of Code.
+pub enum Kind {
+    Fmt0,
+    Warn,
+    Fmt1,
+    Parameter,
+    Handle,
+    Session,
 }
 
 pub enum Answer {
@@ -88,32 +98,30 @@ fn read_fmt1(rc: TpmRc) -> Answer
 
 impl Code {
     // The code of a kind, a base and an index, of which kinds without one take no notice.
-    pub fn from_parts(kind: u32, base: u32, index: u8) -> Answer
-        ensures { λ r. ⌜ saidCode r ≡ ofParts kind base index ⌝ }
+    pub fn from_parts(kind: Kind, base: u32, index: u8) -> Self
+        ensures { λ r. ⌜ r ≡ ofParts kind base index ⌝ }
     {
         let base = TpmRcBase(base);
         match kind {
-            0 => Answer::Code(Code::Fmt0(base)),
-            1 => Answer::Code(Code::Warn(base)),
-            2 => Answer::Code(Code::Fmt1(base)),
-            3 => Answer::Code(Code::Parameter(base, index)),
-            4 => Answer::Code(Code::Handle(base, index)),
-            5 => Answer::Code(Code::Session(base, index)),
-            _ => Answer::Refused(TpmRc(kind).refused(0)),
+            Kind::Fmt0 => Code::Fmt0(base),
+            Kind::Warn => Code::Warn(base),
+            Kind::Fmt1 => Code::Fmt1(base),
+            Kind::Parameter => Code::Parameter(base, index),
+            Kind::Handle => Code::Handle(base, index),
+            Kind::Session => Code::Session(base, index),
         }
     }
 
-    // The number of a code's kind, from 0 in the order of the variants.
-    pub fn kind(self) -> u32
+    pub fn kind(self) -> Kind
         ensures { λ r. ⌜ r ≡ kindOf self ⌝ }
     {
         match self {
-            Code::Fmt0(_) => 0,
-            Code::Warn(_) => 1,
-            Code::Fmt1(_) => 2,
-            Code::Parameter(_, _) => 3,
-            Code::Handle(_, _) => 4,
-            Code::Session(_, _) => 5,
+            Code::Fmt0(_) => Kind::Fmt0,
+            Code::Warn(_) => Kind::Warn,
+            Code::Fmt1(_) => Kind::Fmt1,
+            Code::Parameter(_, _) => Kind::Parameter,
+            Code::Handle(_, _) => Kind::Handle,
+            Code::Session(_, _) => Kind::Session,
         }
     }
 
@@ -156,6 +164,22 @@ impl Code {
             Code::Parameter(base, _) => base,
             Code::Handle(base, _) => base,
             Code::Session(base, _) => base,
+        }
+    }
+}
+
+impl Kind {
+    // The number of a kind, from 0 in the order of the variants.
+    pub fn number(self) -> u32
+        ensures { λ r. ⌜ r ≡ kindNumber self ⌝ }
+    {
+        match self {
+            Kind::Fmt0 => 0,
+            Kind::Warn => 1,
+            Kind::Fmt1 => 2,
+            Kind::Parameter => 3,
+            Kind::Handle => 4,
+            Kind::Session => 5,
         }
     }
 }

@@ -87,9 +87,9 @@ fn copied(bytes: &mut [u8], place: usize, count: usize, out: &mut [u64; 8]) -> T
                 needed,
                 available,
             } => {
-                out[0] = offset as u64;
-                out[1] = needed as u64;
-                out[2] = available as u64;
+                out[4] = offset as u64;
+                out[5] = needed as u64;
+                out[6] = available as u64;
                 wrote(0, 9)
             }
             _ => unknown(),
@@ -99,10 +99,10 @@ fn copied(bytes: &mut [u8], place: usize, count: usize, out: &mut [u64; 8]) -> T
 
 fn field(name: &[u8], bytes: &mut [u8], place: usize, value: usize, out: &mut [u64; 8]) -> Told {
     if check::same(name, b"read_u16") {
-        return read(1, capi::field::skein_read_u16(bytes, place, out));
+        return read(1, capi::field::skein_read_u16(place, bytes, out));
     }
     if check::same(name, b"read_u32") {
-        return read(1, capi::field::skein_read_u32(bytes, place, out));
+        return read(1, capi::field::skein_read_u32(place, bytes, out));
     }
     if value > 4294967295 {
         return unknown();
@@ -113,7 +113,7 @@ fn field(name: &[u8], bytes: &mut [u8], place: usize, value: usize, out: &mut [u
     if check::same(name, b"write_u32") {
         return wrote(
             0,
-            capi::field::skein_write_u32(bytes, place, value as u32, out),
+            capi::field::skein_write_u32(place, value as u32, bytes, out),
         );
     }
     if value > 65535 {
@@ -122,7 +122,7 @@ fn field(name: &[u8], bytes: &mut [u8], place: usize, value: usize, out: &mut [u
     if check::same(name, b"write_u16") {
         return wrote(
             0,
-            capi::field::skein_write_u16(bytes, place, value as u16, out),
+            capi::field::skein_write_u16(place, value as u16, bytes, out),
         );
     }
     unknown()
@@ -210,11 +210,14 @@ fn fixed(name: &[u8], bytes: &[u8], size: usize, out: &mut [u64; 8]) -> Told {
     if size > 65535 {
         return unknown();
     }
-    if check::same(name, b"buffer64_len") {
-        return read(1, capi::buffer64::skein_buffer64_len(size as u16, out));
+    if check::same(name, b"buffer64_wire_len") {
+        return read(1, capi::buffer64::skein_buffer64_wire_len(size as u16, out));
     }
-    if check::same(name, b"buffer1024_len") {
-        return read(1, capi::buffer1024::skein_buffer1024_len(size as u16, out));
+    if check::same(name, b"buffer1024_wire_len") {
+        return read(
+            1,
+            capi::buffer1024::skein_buffer1024_wire_len(size as u16, out),
+        );
     }
     unknown()
 }

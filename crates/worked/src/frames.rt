@@ -51,7 +51,7 @@ fn with_tag(name: &[u8], bytes: &mut [u8], tag: u16, out: &mut [u64; 8]) -> Told
         return read(1, capi::dispatch::skein_tag_known(tag, out));
     }
     if check::same(name, b"frame_set_tag") {
-        return wrote(0, capi::header::skein_frame_set_tag(bytes, tag, out));
+        return wrote(0, capi::header::skein_frame_set_tag(tag, bytes, out));
     }
     unknown()
 }
@@ -74,10 +74,10 @@ fn read_with_code(name: &[u8], bytes: &[u8], code: u32, out: &mut [u64; 8]) -> T
 
 fn write_code(name: &[u8], bytes: &mut [u8], code: u32, out: &mut [u64; 8]) -> Told {
     if check::same(name, b"command_set_cc") {
-        return wrote(0, capi::command::skein_command_set_cc(bytes, code, out));
+        return wrote(0, capi::command::skein_command_set_cc(code, bytes, out));
     }
     if check::same(name, b"response_set_rc") {
-        return wrote(0, capi::response::skein_response_set_rc(bytes, code, out));
+        return wrote(0, capi::response::skein_response_set_rc(code, bytes, out));
     }
     unknown()
 }

@@ -27,14 +27,14 @@ fn numbers(s: &[u64], most: usize) {
     }
 }
 
-// What a call returned and reported, and the bytes that it left. A refusal has its own fields.
+// What a call returned and reported, and the bytes that it left. A refusal has its own fields, at their own places.
 pub(crate) fn answer(told: Told, out: [u64; 8], later: &[u8]) {
     io::write_all(1, b" = ");
     io::print_decimal(1, told.number as u64);
     if told.number == 0 {
         numbers(&out, told.count);
     } else {
-        numbers(&out, fields(told.number));
+        numbers(&out[4..], fields(told.number));
     }
     if told.writes {
         io::write_all(1, b" ; ");

@@ -17,6 +17,9 @@ enum-known-answer c = search needs
 kind-requires : tie.Need-kind-requires
 kind-requires c κs = search needs
 
+number-requires : tie.Need-number-requires
+number-requires c κs = search needs
+
 cast-out : tie.Need-cast-out
 cast-out c = search needs
 
@@ -58,8 +61,8 @@ refuse-requires c κs = search needs
 
 returns : tie.Need-returns
 returns c =
-    rw (c .before .before .before .before .kind .ensures, c .before .before .before .base .ensures, c .before .index .ensures, c .value .ensures)
-    (answered partsAndValue _ _ _ (sym (ap saidCode (c .before .before .before .before .before .before .answer .given .1)) ∙ c .before .before .before .before .before .before .before .before .read .ensures))
+    rw (c .before .before .before .before .number .ensures, c .before .before .before .before .before .kind .ensures, c .before .before .before .base .ensures, c .before .index .ensures, c .value .ensures)
+    (answered partsAndValue _ _ _ (sym (ap saidCode (c .before .before .before .before .before .before .before .answer .given .1)) ∙ c .before .before .before .before .before .before .before .before .before .read .ensures))
 
 returns-2 : tie.Need-returns-2
 returns-2 c =
@@ -72,6 +75,7 @@ skein-rc-read-spec =
     read-requires
     enum-known-answer
     kind-requires
+    number-requires
     cast-out
     element-write-out
     base-requires

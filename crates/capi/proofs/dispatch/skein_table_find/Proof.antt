@@ -14,14 +14,14 @@ find-requires c κs = search needs
 enum-known-row : tie.Need-enum-known-row
 enum-known-row c = search needs
 
-cast-two : tie.Need-cast-two
-cast-two c = search needs
+cast-pair : tie.Need-cast-pair
+cast-pair c = search needs
 
-cast-two-2 : tie.Need-cast-two-2
-cast-two-2 c = search needs
+cast-pair-2 : tie.Need-cast-pair-2
+cast-pair-2 c = search needs
 
-two-requires : tie.Need-two-requires
-two-requires c κs = search needs
+pair-requires : tie.Need-pair-requires
+pair-requires c κs = search needs
 
 enum-known-e : tie.Need-enum-known-e
 enum-known-e c = search needs
@@ -30,7 +30,7 @@ refuse-requires : tie.Need-refuse-requires
 refuse-requires c κs = search needs
 
 returns : tie.Need-returns
-returns c = answered-by handleCounts _ _ _ _ _ (learnt saidFound (c .before .before .before .before .before .row .given .1) (c .before .before .before .before .before .before .before .find .ensures)) (c .two .ensures)
+returns c = answered-by handleCounts _ _ _ _ _ (learnt saidFound (c .before .before .before .before .before .row .given .1) (c .before .before .before .before .before .before .before .find .ensures)) (c .pair .ensures)
 
 returns-2 : tie.Need-returns-2
 returns-2 c = refused handleCounts _ _ _ _ _ (learnt saidFound (c .before .before .before .e .given .1) (c .before .before .before .before .before .find .ensures)) (c .refuse .ensures)
@@ -41,9 +41,9 @@ skein-table-find-spec =
     (tie.spec
     find-requires
     enum-known-row
-    cast-two
-    cast-two-2
-    two-requires
+    cast-pair
+    cast-pair-2
+    pair-requires
     enum-known-e
     refuse-requires
     returns

@@ -11,8 +11,8 @@ use Rattle.capi.proofs.out.range.Tie as tie
 enum-known-a : tie.Need-enum-known-a
 enum-known-a c = search needs
 
-two-requires : tie.Need-two-requires
-two-requires c κs = search needs
+pair-requires : tie.Need-pair-requires
+pair-requires c κs = search needs
 
 enum-known-a-2 : tie.Need-enum-known-a-2
 enum-known-a-2 c = search needs
@@ -21,11 +21,11 @@ refuse-requires : tie.Need-refuse-requires
 refuse-requires c κs = search needs
 
 returns : tie.Need-returns
-returns c = answered-by ends _ _ _ _ _ (sym (ap saidRange (c .before .before .before .a .given .1))) (c .two .ensures)
+returns c = answered-by ends _ _ _ _ _ (sym (ap saidRange (c .before .before .before .a .given .1))) (c .pair .ensures)
 
 returns-2 : tie.Need-returns-2
 returns-2 c = refused ends _ _ _ _ _ (sym (ap saidRange (c .before .before .before .a2 .given .1))) (c .refuse .ensures)
 
 pub range-spec : {M : Type 1} → statement M
 range-spec =
-    tie.close (tie.spec enum-known-a two-requires enum-known-a-2 refuse-requires returns returns-2)
+    tie.close (tie.spec enum-known-a pair-requires enum-known-a-2 refuse-requires returns returns-2)

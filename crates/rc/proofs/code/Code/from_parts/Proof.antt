@@ -1,55 +1,58 @@
--- `rc::code::Code::from_parts` meets its contract: each arm knows which of the six numbers the kind is, and the last that it is none.
+-- `rc::code::Code::from_parts` meets its contract: each arm knows which kind it has.
 -- Assumes nothing.
-use mathlib.Core.Path.{ap}
-use borrow.Author.Tests.{ne-eqb}
-use Rattle.base.specs.Said.{refuses}
-use Rattle.rc.specs.Code.{ofParts}
 use borrow.Author.Needs.{needs}
 use Rattle.rc.proofs.code.Code.from_parts.Statement.{statement}
 use Rattle.rc.proofs.code.Code.from_parts.Tie as tie
 
-refused-requires : tie.Need-refused-requires
-refused-requires c κs = search needs
+enum-told : tie.Need-enum-told
+enum-told c = search needs
+
+enum-told-2 : tie.Need-enum-told-2
+enum-told-2 c = search needs
+
+enum-told-3 : tie.Need-enum-told-3
+enum-told-3 c = search needs
+
+enum-told-4 : tie.Need-enum-told-4
+enum-told-4 c = search needs
+
+enum-told-5 : tie.Need-enum-told-5
+enum-told-5 c = search needs
+
+enum-told-6 : tie.Need-enum-told-6
+enum-told-6 c = search needs
 
 returns : tie.Need-returns
-unfolding ofParts
-returns c = rw (c .match .keys1)
+returns c = rw (c .enum-told .given .1)
 
 returns-2 : tie.Need-returns-2
-unfolding ofParts
-returns-2 c = rw (c .match .keys2)
+returns-2 c = rw (c .enum-told2 .given .1)
 
 returns-3 : tie.Need-returns-3
-unfolding ofParts
-returns-3 c = rw (c .match .keys3)
+returns-3 c = rw (c .enum-told3 .given .1)
 
 returns-4 : tie.Need-returns-4
-unfolding ofParts
-returns-4 c = rw (c .match .keys4)
+returns-4 c = rw (c .enum-told4 .given .1)
 
 returns-5 : tie.Need-returns-5
-unfolding ofParts
-returns-5 c = rw (c .match .keys5)
+returns-5 c = rw (c .enum-told5 .given .1)
 
 returns-6 : tie.Need-returns-6
-unfolding ofParts
-returns-6 c = rw (c .match .keys6)
-
-returns-7 : tie.Need-returns-7
-unfolding ofParts
-returns-7 c =
-    let others = c .before .match .rest in
-    simp (
-      ne-eqb _ 0 (others .0 .0 .0 .0 .0 .1),
-      ne-eqb _ 1 (others .0 .0 .0 .0 .1),
-      ne-eqb _ 2 (others .0 .0 .0 .1),
-      ne-eqb _ 3 (others .0 .0 .1),
-      ne-eqb _ 4 (others .0 .1),
-      ne-eqb _ 5 (others .1),
-    )
-    (ap refuses (c .refused .ensures))
+returns-6 c = rw (c .enum-told6 .given .1)
 
 pub from-parts-spec : {M : Type 1} → statement M
 from-parts-spec =
     tie.close
-    (tie.spec refused-requires returns returns-2 returns-3 returns-4 returns-5 returns-6 returns-7)
+    (tie.spec
+    enum-told
+    enum-told-2
+    enum-told-3
+    enum-told-4
+    enum-told-5
+    enum-told-6
+    returns
+    returns-2
+    returns-3
+    returns-4
+    returns-5
+    returns-6)

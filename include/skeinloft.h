@@ -1,0 +1,385 @@
+/* Skeinloft: TPM 2.0 command and response frames, read, checked and written.
+
+   THE FORM OF A CALL. The arguments come in one order: numbers; bytes that are read; bytes that are written; last `out`, a lent
+   array of eight numbers. A slice is a pointer and its length. A fixed buffer is its size and its data, always together.
+   What comes back is 0 for an answer, else the refusal's number. The two calls `_parts` give a struct whose first field is
+   that number.
+
+   THE ARRAY has fixed places, see enum skein_place. An answer's numbers go to the places 0 to 3, and the others stay as they
+   were. A refusal's fields go to the places 4 to 6, as many as it has, and the others stay as they were: after a refusal
+   out[0] is what stood there before. Below, `gives` names what goes to the places from 0 on, in this order.
+
+   A REFUSED CALL changes nothing that was lent but those fields. Below, a refusal is written No.(fields), as 1(0,10,len): its
+   number, then its fields. A call that names no refusal always answers.
+
+   WHAT THE CALLER OWES
+   - Every pointer is valid for its length. It may be null only where the length is 0.
+   - `out` points to eight numbers, the data of a buffer to 64 or to 1,024 bytes; neither is null.
+   - What is written overlaps nothing else that the call is given.
+   The values themselves are free: every byte string, number and record is taken, and has its answer or its refusal.
+
+   Nothing is kept behind a call and there is no state: calls may run at the same time in several threads, as long as what they
+   write to is not shared.
+
+   ONE MEANING A WORD
+   len    the bytes of a slice that is given
+   size   the number in a size field, a frame's or a TPM2B's, and so the bytes that a fixed buffer holds
+   wire   2 + size: a TPM2B's bytes with its size field
+   place  how many bytes stand before something, counted from 0
+   room   bytes that are lent to be written to
+
+   Tags, codes and areas are those of the TPM 2.0 Library, Parts 1 to 3. All numbers in frames are big-endian. */
+
+#ifndef SKEINLOFT_H
+#define SKEINLOFT_H
+
+#include <stddef.h>
+#include <stdint.h>
+
+#ifdef __cplusplus
+extern "C" {
+#endif
+
+/* Rises where a call or a struct changes its form or its meaning. */
+#define SKEIN_VERSION 1
+
+/* ---- numbers and places */
+
+/* What a call returns. Behind each refusal are its fields. */
+enum skein_refusal {
+    SKEIN_ANSWER = 0,
+    SKEIN_UNEXPECTED_END = 1,    /* offset, needed, available: bytes end too early */
+    SKEIN_TRAILING_DATA = 2,     /* offset, actual: bytes behind the end */
+    SKEIN_INVALID_TAG = 3,       /* offset, value */
+    SKEIN_INVALID_CC = 4,        /* offset, value: a command code that is none */
+    SKEIN_INVALID_RC = 5,        /* offset, value: a response code that is none */
+    SKEIN_TOO_MANY_ITEMS = 6,    /* offset, limit, actual */
+    SKEIN_INTEGER_TOO_LARGE = 7, /* offset, value */
+    SKEIN_TOO_MANY_BYTES = 8,    /* offset, limit, actual */
+    SKEIN_BUFFER_OVERFLOW = 9,   /* offset, needed, available: lent room too short */
+    /* from 100 on: a number in the call itself names nothing */
+    SKEIN_NO_SUCH_KIND = 100     /* 0, kind */
+};
+
+/* The places of the lent array. */
+enum skein_place {
+    SKEIN_FIRST = 0,     /* the answer's first number, of at most four */
+    SKEIN_FROM = 0,      /* of a part: where it starts */
+    SKEIN_TO = 1,        /* and ends */
+    SKEIN_TAIL_FROM = 2, /* of what is behind it: where that starts */
+    SKEIN_TAIL_TO = 3,   /* and ends */
+    SKEIN_OFFSET = 4,    /* a refusal's offset */
+    SKEIN_SECOND = 5,    /* its second field */
+    SKEIN_THIRD = 6,     /* its third field, where it has three */
+    SKEIN_FREE = 7,      /* kept free: nothing is written there */
+    SKEIN_NUMBERS = 8    /* how many places there are */
+};
+
+/* The tags of the two kinds of frames (Part 2, TPM_ST). */
+enum skein_tag {
+    SKEIN_NO_SESSIONS = 0x8001,
+    SKEIN_SESSIONS = 0x8002
+};
+
+/* The kinds of response codes: of format zero, an error or a warning; of format one, those that speak of no part, and of a
+   parameter, a handle or a session. */
+enum skein_kind {
+    SKEIN_FMT0 = 0,
+    SKEIN_WARN = 1,
+    SKEIN_FMT1 = 2,
+    SKEIN_PARAMETER = 3,
+    SKEIN_HANDLE = 4,
+    SKEIN_SESSION = 5
+};
+
+enum {
+    SKEIN_MAX_SESSIONS = 3,
+    SKEIN_HEADER = 10,      /* bytes of a frame's header: where its handles start */
+    SKEIN_BUFFER64 = 64,    /* bytes of the fixed buffers' data */
+    SKEIN_BUFFER1024 = 1024
+};
+
+/* ---- structs */
+
+/* A part of a frame: the bytes from `from` up to `to`, without the one at `to`. */
+struct skein_span {
+    size_t from;
+    size_t to;
+};
+
+/* A nonce or an HMAC: `size` bytes from the place `at` on. */
+struct skein_field {
+    size_t at;
+    uint16_t size;
+};
+
+/* An entry of an authorization area. One of a response has no handle: 0 where it is read, ignored where it is written. */
+struct skein_session {
+    uint32_t handle;
+    struct skein_field nonce;
+    uint8_t attributes;
+    struct skein_field hmac;
+};
+
+/* How many entries there are, and the first three. Read: zeros where there is none. Written: those past `count` are ignored. */
+struct skein_sessions {
+    size_t count;
+    struct skein_session first;
+    struct skein_session second;
+    struct skein_session third;
+};
+
+/* All parts of a command. The areas are places in the frame: handles start at 10; `auth` are the entries without their size. */
+struct skein_command {
+    uint16_t tag;
+    uint32_t cc;
+    struct skein_span handles;
+    struct skein_span auth;
+    struct skein_span parameters;
+    struct skein_sessions sessions;
+};
+
+/* All parts of a response, with the areas in the same order; in the frame the parameters stand before the entries. */
+struct skein_response {
+    uint16_t tag;
+    uint32_t rc;
+    struct skein_span handles;
+    struct skein_span auth;
+    struct skein_span parameters;
+    struct skein_sessions sessions;
+};
+
+/* What the two calls `_parts` give: the number that other calls return, and the parts, all zeros where it is not 0. */
+struct skein_command_parts {
+    uint32_t refusal;
+    struct skein_command command;
+};
+
+struct skein_response_parts {
+    uint32_t refusal;
+    struct skein_response response;
+};
+
+/* The library is one for 64-bit machines: there the structs have these sizes. */
+#if defined(__cplusplus) && __cplusplus >= 201103L
+#define SKEIN_HOLDS(name, fact) static_assert(fact, #name)
+#elif defined(__STDC_VERSION__) && __STDC_VERSION__ >= 201112L
+#define SKEIN_HOLDS(name, fact) _Static_assert(fact, #name)
+#else
+#define SKEIN_HOLDS(name, fact) typedef char name[(fact) ? 1 : -1]
+#endif
+SKEIN_HOLDS(skein_size_of_size_t, sizeof(size_t) == 8);
+SKEIN_HOLDS(skein_size_of_span, sizeof(struct skein_span) == 16);
+SKEIN_HOLDS(skein_size_of_field, sizeof(struct skein_field) == 16);
+SKEIN_HOLDS(skein_size_of_session, sizeof(struct skein_session) == 48);
+SKEIN_HOLDS(skein_size_of_sessions, sizeof(struct skein_sessions) == 152);
+SKEIN_HOLDS(skein_size_of_command, sizeof(struct skein_command) == 208);
+SKEIN_HOLDS(skein_size_of_response, sizeof(struct skein_response) == 208);
+SKEIN_HOLDS(skein_size_of_command_parts, sizeof(struct skein_command_parts) == 216);
+SKEIN_HOLDS(skein_size_of_response_parts, sizeof(struct skein_response_parts) == 216);
+#undef SKEIN_HOLDS
+
+/* ---- commands
+
+   What a frame is refused for, in this order, with S for its size field and `left` for the bytes from a place to the end:
+   the envelope   1(0,10,len)  1(2,10,S)  1(len,S-len,0)  2(S,len-S)  3(0,tag)
+   a command      4(6,cc)  1(10,handle bytes,left)
+   its area       1(place,4,left)  1(place,size,left)
+   its entries    6(place,3,4)  1(place,needed,left)
+   `_cast` goes up to the area's size, `_validate` and `_parts` check all. */
+
+/* Checks a command whole. Gives nothing. */
+uint32_t skein_command_validate(const uint8_t *s, size_t len, uint64_t out[8]);
+
+/* Checks a command whole and gives all its parts by value; the array takes a refusal's fields alone. */
+struct skein_command_parts skein_command_parts(const uint8_t *s, size_t len, uint64_t out[8]);
+
+/* Checks all but the entries. Gives the whole of the bytes: 0, len. */
+uint32_t skein_command_cast(const uint8_t *s, size_t len, uint64_t out[8]);
+
+/* The same of a command at the start of the bytes. Gives it and what is behind it: 0, S, S, len. */
+uint32_t skein_command_cast_prefix(const uint8_t *s, size_t len, uint64_t out[8]);
+
+/* One area. Gives its start and its end. The size field is not judged: all bytes count.
+   Refuses 1(0,10,len), 4(6,cc), 1(10,handle bytes,left); the last two also 3(0,tag) and an area that is short, as above. */
+uint32_t skein_command_handles(const uint8_t *s, size_t len, uint64_t out[8]);
+uint32_t skein_command_auth_area(const uint8_t *s, size_t len, uint64_t out[8]);
+uint32_t skein_command_parameters(const uint8_t *s, size_t len, uint64_t out[8]);
+
+/* The command code. Gives it. Refuses 1(0,10,len), 4(6,cc). */
+uint32_t skein_command_cc(const uint8_t *s, size_t len, uint64_t out[8]);
+
+/* Puts a command code in; nothing else of the frame is checked or changed. Gives nothing. Refuses 1(0,10,len), 4(0,cc). */
+uint32_t skein_command_set_cc(uint32_t cc, uint8_t *s, size_t len, uint64_t out[8]);
+
+/* Writes a command to the start of the room. Gives how many bytes that took; the room behind them stays as it was.
+   `lent` are the bytes that the places in `sessions` count in: of a frame that was read, the frame.
+   Refuses 3(0,tag) also where tag and sessions do not go together, 6(0,3,count), 4(0,cc), handle bytes that are short
+   1(0,due,given) or too many 2(due,given-due), a nonce or an HMAC that ends behind `lent` 1(at,size,left), a total of more than
+   32 bits 7(0,total), room too short 9(0,total,room_len). */
+uint32_t skein_command_write(uint16_t tag, uint32_t cc, const uint8_t *handles, size_t handles_len, struct skein_sessions sessions,
+                             const uint8_t *lent, size_t lent_len, const uint8_t *parameters, size_t parameters_len,
+                             uint8_t *room, size_t room_len, uint64_t out[8]);
+
+/* The same with the sessions in an array of `count`. */
+uint32_t skein_command_write_array(uint16_t tag, uint32_t cc, const uint8_t *handles, size_t handles_len,
+                                   const struct skein_session *sessions, size_t count, const uint8_t *lent, size_t lent_len,
+                                   const uint8_t *parameters, size_t parameters_len, uint8_t *room, size_t room_len,
+                                   uint64_t out[8]);
+
+/* ---- responses
+
+   The envelope is refused as a command's, then a code that does not read, 5(6,rc). What is behind the header depends on the
+   command that is answered: `cc` is its code. Refused for it: 4(0,cc); of a code that is not success, 3(0,0x8002) and
+   2(10,len-10); of success, handles, area and entries as in a command. */
+
+/* Checks a response to the command cc whole. Gives nothing. */
+uint32_t skein_response_validate(uint32_t cc, const uint8_t *s, size_t len, uint64_t out[8]);
+
+/* Checks a response to the command cc whole and gives all its parts by value; the array takes a refusal's fields alone. */
+struct skein_response_parts skein_response_parts(uint32_t cc, const uint8_t *s, size_t len, uint64_t out[8]);
+
+/* Checks the envelope and the response code. Gives the whole of the bytes: 0, len. */
+uint32_t skein_response_cast(const uint8_t *s, size_t len, uint64_t out[8]);
+
+/* The same of a response at the start of the bytes. Gives it and what is behind it: 0, S, S, len. */
+uint32_t skein_response_cast_prefix(const uint8_t *s, size_t len, uint64_t out[8]);
+
+/* What is behind the header. Gives 10 and len. Refuses 1(0,10,len). */
+uint32_t skein_response_body(const uint8_t *s, size_t len, uint64_t out[8]);
+
+/* The response code. Gives it. Refuses 1(0,10,len), 5(6,rc). */
+uint32_t skein_response_rc(const uint8_t *s, size_t len, uint64_t out[8]);
+
+/* Puts a response code in; nothing else of the frame is checked or changed. Gives nothing. Refuses 1(0,10,len), 5(0,rc). */
+uint32_t skein_response_set_rc(uint32_t rc, uint8_t *s, size_t len, uint64_t out[8]);
+
+/* Writes a response with the code rc to the command cc, as skein_command_write does; sessions choose the tag.
+   Refuses 6(0,3,count), 4(0,cc), 5(0,rc), sessions with a code that is not success 3(0,0x8002), and from the handles on as a
+   command. A code that is not success is written in ten bytes, and the other parts are ignored. */
+uint32_t skein_response_write(uint32_t rc, uint32_t cc, const uint8_t *handles, size_t handles_len, struct skein_sessions sessions,
+                              const uint8_t *lent, size_t lent_len, const uint8_t *parameters, size_t parameters_len,
+                              uint8_t *room, size_t room_len, uint64_t out[8]);
+
+/* The same with the sessions in an array of `count`. */
+uint32_t skein_response_write_array(uint32_t rc, uint32_t cc, const uint8_t *handles, size_t handles_len,
+                                    const struct skein_session *sessions, size_t count, const uint8_t *lent, size_t lent_len,
+                                    const uint8_t *parameters, size_t parameters_len, uint8_t *room, size_t room_len,
+                                    uint64_t out[8]);
+
+/* ---- headers, of either kind */
+
+/* The tag. Gives it. Refuses 1(0,10,len), and a tag that is none of the Library's, 3(0,tag). */
+uint32_t skein_frame_tag(const uint8_t *s, size_t len, uint64_t out[8]);
+
+/* Puts a tag in; nothing else is checked or changed. Gives nothing. Refuses 1(0,10,len), 3(0,tag). */
+uint32_t skein_frame_set_tag(uint16_t tag, uint8_t *s, size_t len, uint64_t out[8]);
+
+/* The size field, not judged. Gives it. Refuses 1(0,10,len). */
+uint32_t skein_frame_size(const uint8_t *s, size_t len, uint64_t out[8]);
+
+/* Gives len; and 1 where that is 0, else 0. */
+uint32_t skein_frame_len(const uint8_t *s, size_t len, uint64_t out[8]);
+uint32_t skein_frame_is_empty(const uint8_t *s, size_t len, uint64_t out[8]);
+
+/* ---- codes, tags, and the table of commands */
+
+/* Takes a response code apart. Gives its kind, its base, the number of the part that it speaks of (0: none) and its value.
+   Refuses 5(0,rc). */
+uint32_t skein_rc_read(uint32_t rc, uint64_t out[8]);
+
+/* Puts a response code together; an index counts to four bits, and kinds without one ignore it. Gives the code.
+   Refuses 100(0,kind). */
+uint32_t skein_rc_value(uint32_t kind, uint32_t base, uint8_t index, uint64_t out[8]);
+
+/* Gives how many handles a command has, and how many its response. Refuses 4(0,cc). */
+uint32_t skein_table_find(uint32_t cc, uint64_t out[8]);
+
+/* Give 1 for a command code, a tag, that there is, else 0. */
+uint32_t skein_table_known(uint32_t cc, uint64_t out[8]);
+uint32_t skein_tag_known(uint16_t tag, uint64_t out[8]);
+
+/* ---- fields: two or four bytes at a place */
+
+/* Give the number there. Refuse 1(place,width,left). */
+uint32_t skein_read_u16(size_t place, const uint8_t *s, size_t len, uint64_t out[8]);
+uint32_t skein_read_u32(size_t place, const uint8_t *s, size_t len, uint64_t out[8]);
+
+/* Write a number there. Give nothing. Refuse 9(place,width,left). */
+uint32_t skein_write_u16(size_t place, uint16_t n, uint8_t *s, size_t len, uint64_t out[8]);
+uint32_t skein_write_u32(size_t place, uint32_t n, uint8_t *s, size_t len, uint64_t out[8]);
+
+/* ---- a TPM2B where it stands: a size of two bytes, and that many bytes
+
+   Checked against a capacity it is refused 1(0,2,len), 8(0,capacity,size), 1(2,size,len-2); read whole also 2(2+size,rest). */
+
+/* Checks the one at the start. Gives its wire length. */
+uint32_t skein_tpm2b_validate_prefix(size_t capacity, const uint8_t *s, size_t len, uint64_t out[8]);
+
+/* Checks the bytes whole. Gives nothing. */
+uint32_t skein_tpm2b_validate(size_t capacity, const uint8_t *s, size_t len, uint64_t out[8]);
+
+/* Checks the bytes whole. Gives 0 and len. */
+uint32_t skein_tpm2b_cast(size_t capacity, const uint8_t *s, size_t len, uint64_t out[8]);
+
+/* Checks the one at the start. Gives it and what is behind it: 0, its end, its end, len. */
+uint32_t skein_tpm2b_cast_prefix(size_t capacity, const uint8_t *s, size_t len, uint64_t out[8]);
+
+/* Give the size; 2 and len, which is all behind the size; 1 where the size is 0, else 0. Nothing more is judged.
+   Refuse 1(0,2,len). */
+uint32_t skein_tpm2b_size(const uint8_t *s, size_t len, uint64_t out[8]);
+uint32_t skein_tpm2b_data(const uint8_t *s, size_t len, uint64_t out[8]);
+uint32_t skein_tpm2b_is_empty(const uint8_t *s, size_t len, uint64_t out[8]);
+
+/* Gives len. */
+uint32_t skein_tpm2b_len(const uint8_t *s, size_t len, uint64_t out[8]);
+
+/* ---- fixed buffers of 64 and of 1,024 bytes
+
+   The first `size` bytes of the data are held; those behind them are never looked at, and stay as they were where nothing else
+   is said. The caller keeps the size: a call that changes the buffer gives the new one. A size above the capacity is refused by
+   each call that takes one, 8(0,capacity,size). */
+
+/* An empty buffer: the data become zeros. Gives 0, its size. */
+uint32_t skein_buffer64_new(uint8_t data[64], uint64_t out[8]);
+uint32_t skein_buffer1024_new(uint8_t data[1024], uint64_t out[8]);
+
+/* A buffer of these bytes, zeros behind them. Gives its size. Refuses 9(0,len,capacity). */
+uint32_t skein_buffer64_from_slice(const uint8_t *s, size_t len, uint8_t data[64], uint64_t out[8]);
+uint32_t skein_buffer1024_from_slice(const uint8_t *s, size_t len, uint8_t data[1024], uint64_t out[8]);
+
+/* A buffer of the TPM2B at the start of the bytes, zeros behind it. Gives its size and its wire length.
+   Refuses as skein_tpm2b_validate_prefix. */
+uint32_t skein_buffer64_unmarshal(const uint8_t *s, size_t len, uint8_t data[64], uint64_t out[8]);
+uint32_t skein_buffer1024_unmarshal(const uint8_t *s, size_t len, uint8_t data[1024], uint64_t out[8]);
+
+/* One byte more. Gives the new size. Refuses 9(size,1,capacity-size). */
+uint32_t skein_buffer64_push(uint8_t byte, uint16_t size, uint8_t data[64], uint64_t out[8]);
+uint32_t skein_buffer1024_push(uint8_t byte, uint16_t size, uint8_t data[1024], uint64_t out[8]);
+
+/* These bytes more. Gives the new size. Refuses 9(size,len,capacity-size). */
+uint32_t skein_buffer64_extend(const uint8_t *s, size_t len, uint16_t size, uint8_t data[64], uint64_t out[8]);
+uint32_t skein_buffer1024_extend(const uint8_t *s, size_t len, uint16_t size, uint8_t data[1024], uint64_t out[8]);
+
+/* Copies the bytes held to the start of the room. Gives the size. Refuses 9(0,size,room_len). */
+uint32_t skein_buffer64_held(uint16_t size, const uint8_t data[64], uint8_t *room, size_t room_len, uint64_t out[8]);
+uint32_t skein_buffer1024_held(uint16_t size, const uint8_t data[1024], uint8_t *room, size_t room_len, uint64_t out[8]);
+
+/* Writes the TPM2B to the start of the room. Gives its wire length. Refuses 9(0,2+size,room_len). */
+uint32_t skein_buffer64_marshal(uint16_t size, const uint8_t data[64], uint8_t *room, size_t room_len, uint64_t out[8]);
+uint32_t skein_buffer1024_marshal(uint16_t size, const uint8_t data[1024], uint8_t *room, size_t room_len, uint64_t out[8]);
+
+/* Gives the wire length of a buffer that holds so many bytes. */
+uint32_t skein_buffer64_wire_len(uint16_t size, uint64_t out[8]);
+uint32_t skein_buffer1024_wire_len(uint16_t size, uint64_t out[8]);
+
+/* Gives 1 where the two hold the same bytes, else 0. The first buffer's size is judged first. */
+uint32_t skein_buffer64_eq(uint16_t size, const uint8_t data[64], uint16_t other_size, const uint8_t other[64], uint64_t out[8]);
+uint32_t skein_buffer1024_eq(uint16_t size, const uint8_t data[1024], uint16_t other_size, const uint8_t other[1024],
+                             uint64_t out[8]);
+
+#ifdef __cplusplus
+}
+#endif
+
+#endif
