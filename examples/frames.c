@@ -1,0 +1,146 @@
+/* Reads a command and a response, says why some bytes are refused, and writes again what was read.
+   This is C99, and C++ as well. `examples/run` compiles it as both, links it with the proved library, and holds what it
+   prints to frames.txt. */
+#include "skeinloft.h"
+
+#include <stdio.h>
+#include <string.h>
+
+/* A command with one session and no parameters, and a response to the command 0x17B with one session. */
+static const uint8_t command[27] = {0x80, 2, 0, 0, 0, 0x1B, 0, 0, 1, 0x5E, 0x80, 0, 0, 0, 0, 0, 0, 9, 0x40, 0, 0, 9};
+static const uint8_t response[23] = {0x80, 2, 0, 0, 0, 0x17, 0, 0, 0, 0, 0, 0, 0, 4, 0, 2, 0xAA, 0xBB, 0, 0, 1};
+
+static int faults;
+
+static void say_refusal(uint32_t number, const uint64_t out[SKEIN_NUMBERS]) {
+    unsigned long long second = out[SKEIN_SECOND], third = out[SKEIN_THIRD];
+    const char *name = "another refusal";
+    switch (number) {
+    case SKEIN_UNEXPECTED_END: name = "UnexpectedEnd"; break;
+    case SKEIN_TRAILING_DATA: name = "TrailingData"; break;
+    case SKEIN_INVALID_TAG: name = "InvalidTag"; break;
+    case SKEIN_INVALID_CC: name = "InvalidCc"; break;
+    case SKEIN_INVALID_RC: name = "InvalidRc"; break;
+    case SKEIN_TOO_MANY_ITEMS: name = "TooManyItems"; break;
+    case SKEIN_INTEGER_TOO_LARGE: name = "IntegerTooLarge"; break;
+    case SKEIN_TOO_MANY_BYTES: name = "TooManyBytes"; break;
+    case SKEIN_BUFFER_OVERFLOW: name = "BufferOverflow"; break;
+    case SKEIN_NO_SUCH_KIND: name = "a kind that is none"; break;
+    }
+    printf("refused: %s at %llu, ", name, (unsigned long long)out[SKEIN_OFFSET]);
+    switch (number) {
+    case SKEIN_UNEXPECTED_END:
+    case SKEIN_BUFFER_OVERFLOW: printf("%llu needed and %llu there\n", second, third); break;
+    case SKEIN_TOO_MANY_ITEMS:
+    case SKEIN_TOO_MANY_BYTES: printf("at most %llu and there are %llu\n", second, third); break;
+    default: printf("%llu\n", second);
+    }
+}
+
+static void say_area(const char *name, struct skein_span area) {
+    printf("  %s %zu..%zu\n", name, area.from, area.to);
+}
+
+static void say_sessions(const struct skein_sessions *sessions) {
+    const struct skein_session *three[SKEIN_MAX_SESSIONS] = {&sessions->first, &sessions->second, &sessions->third};
+    for (size_t i = 0; i < sessions->count; i++) {
+        const struct skein_session *it = three[i];
+        printf("  session %#x: nonce %d bytes at %zu, attributes %#x, HMAC %d bytes at %zu\n", (unsigned)it->handle,
+               it->nonce.size, it->nonce.at, it->attributes, it->hmac.size, it->hmac.at);
+    }
+}
+
+/* What a writer left has to be the frame, with the room behind it as it was. */
+static void compare(uint32_t number, const uint64_t out[SKEIN_NUMBERS], const uint8_t *room, const uint8_t *frame, size_t len) {
+    if (number) {
+        say_refusal(number, out);
+    } else if (out[SKEIN_FIRST] == len && !memcmp(room, frame, len) && room[len] == 0xEE) {
+        printf("  written again: the same %zu bytes\n", len);
+        return;
+    }
+    printf("  NOT WRITTEN AGAIN\n");
+    faults++;
+}
+
+static void read_command(const uint8_t *s, size_t len) {
+    uint64_t out[SKEIN_NUMBERS] = {0};
+    uint8_t room[64];
+    struct skein_command_parts read = skein_command_parts(s, len, out);
+    const struct skein_command *it = &read.command;
+    if (read.refusal) {
+        say_refusal(read.refusal, out);
+        return;
+    }
+    printf("command %#x under the tag %#x\n", (unsigned)it->cc, it->tag);
+    say_area("handles", it->handles);
+    say_area("authorization", it->auth);
+    say_area("parameters", it->parameters);
+    say_sessions(&it->sessions);
+
+    memset(room, 0xEE, sizeof room);
+    uint32_t number = skein_command_write(it->tag, it->cc, s + it->handles.from, it->handles.to - it->handles.from,
+                                          it->sessions, s, len, s + it->parameters.from,
+                                          it->parameters.to - it->parameters.from, room, sizeof room, out);
+    compare(number, out, room, s, len);
+}
+
+static void read_response(uint32_t cc, const uint8_t *s, size_t len) {
+    uint64_t out[SKEIN_NUMBERS] = {0};
+    uint8_t room[64];
+    struct skein_response_parts read = skein_response_parts(cc, s, len, out);
+    const struct skein_response *it = &read.response;
+    if (read.refusal) {
+        say_refusal(read.refusal, out);
+        return;
+    }
+    printf("response %#x to the command %#x under the tag %#x\n", (unsigned)it->rc, (unsigned)cc, it->tag);
+    say_area("handles", it->handles);
+    say_area("authorization", it->auth);
+    say_area("parameters", it->parameters);
+    say_sessions(&it->sessions);
+
+    memset(room, 0xEE, sizeof room);
+    uint32_t number = skein_response_write(it->rc, cc, s + it->handles.from, it->handles.to - it->handles.from,
+                                           it->sessions, s, len, s + it->parameters.from,
+                                           it->parameters.to - it->parameters.from, room, sizeof room, out);
+    compare(number, out, room, s, len);
+}
+
+/* A session of the caller's own. What stands behind the first record is ignored, since there is one session. */
+static void write_own(void) {
+    uint64_t out[SKEIN_NUMBERS] = {0};
+    uint8_t room[64];
+    struct skein_sessions sessions;
+    memset(&sessions, 0xFF, sizeof sessions);
+    sessions.count = 1;
+    memset(&sessions.first, 0, sizeof sessions.first);
+    sessions.first.handle = 0x40000009;
+    printf("the first command from a session of our own\n");
+    memset(room, 0xEE, sizeof room);
+    uint32_t number = skein_command_write(SKEIN_SESSIONS, 0x15E, command + SKEIN_HEADER, 4, sessions, NULL, 0, NULL, 0, room,
+                                          sizeof room, out);
+    compare(number, out, room, command, sizeof command);
+
+    /* without room, and with no bytes at all, which a null pointer stands for */
+    sessions.count = 0;
+    out[SKEIN_FIRST] = 7;
+    say_refusal(skein_command_write(SKEIN_NO_SESSIONS, 0x144, NULL, 0, sessions, NULL, 0, NULL, 0, NULL, 0, out), out);
+    printf("  after that the array starts with %llu, as before\n", (unsigned long long)out[SKEIN_FIRST]);
+}
+
+int main(void) {
+    uint8_t shorter[sizeof command];
+    read_command(command, sizeof command);
+    read_response(0x17B, response, sizeof response);
+    write_own();
+
+    /* the same command with a size field that is one too small, without its last byte, and no command at all */
+    memcpy(shorter, command, sizeof command);
+    shorter[5]--;
+    read_command(shorter, sizeof shorter);
+    read_command(command, sizeof command - 1);
+    read_command(NULL, 0);
+    /* the response read as one to a command that is none */
+    read_response(0, response, sizeof response);
+    return faults != 0;
+}
