@@ -4,7 +4,7 @@
 //! it finds the room short, its answer is not taken (D4).
 
 use super::oracle;
-use crate::calls::{Handed, Out};
+use crate::calls::{Handed, OFFSET, Out};
 use crate::oracle::put;
 use std::sync::atomic::{AtomicU64, Ordering};
 
@@ -45,7 +45,7 @@ fn limited(
     let number = write(&mut apart, &mut their_out)?;
     let explained = match count {
         4..=8 => behind.contains(&number),
-        _ => number == 6 && their_out.starts_with(&[0, 8, count as u64]),
+        _ => number == 6 && their_out[OFFSET..].starts_with(&[0, 8, count as u64]),
     };
     if explained {
         EXPLAINED.fetch_add(1, Ordering::Relaxed);
