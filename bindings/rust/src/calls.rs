@@ -1,0 +1,285 @@
+//! The calls of the proved library, as `include/skeinloft.h` declares them: the only unsafe code.
+//!
+//! One form for all: numbers, bytes that are read, bytes that are written, and last the lent array of eight numbers. The
+//! refusal's number comes back (0: an answer). An answer's numbers go to the places 0 to 3 of the array, a refusal's fields
+//! to the places from 4 on. All parts of a frame come by value, with the number before them, and the writers take the
+//! sessions in the record that is among them.
+
+/// The lent array.
+pub type Out = [u64; 8];
+
+/// The place of a refusal's first field in the array; the others follow it.
+pub const OFFSET: usize = 4;
+
+/// A part of a frame, by its start and its end.
+#[repr(C)]
+#[derive(Clone, Copy, Debug, Default, PartialEq, Eq)]
+pub struct Span {
+    pub from: usize,
+    pub to: usize,
+}
+
+/// A nonce or an HMAC, by its place and its size.
+#[repr(C)]
+#[derive(Clone, Copy, Debug, Default, PartialEq, Eq)]
+pub struct Field {
+    pub at: usize,
+    pub size: u16,
+}
+
+/// An entry of an authorization area; that of a response has no handle.
+#[repr(C)]
+#[derive(Clone, Copy, Debug, Default, PartialEq, Eq)]
+pub struct Session {
+    pub handle: u32,
+    pub nonce: Field,
+    pub attributes: u8,
+    pub hmac: Field,
+}
+
+/// How many entries there are, and the first three: zeros where there is none.
+#[repr(C)]
+#[derive(Clone, Copy, Debug, Default, PartialEq, Eq)]
+pub struct Sessions {
+    pub count: usize,
+    pub three: [Session; 3],
+}
+
+/// All parts of a frame; its code is a command code or a response code.
+#[repr(C)]
+#[derive(Clone, Copy, Debug, Default, PartialEq, Eq)]
+pub struct Frame {
+    pub tag: u16,
+    pub code: u32,
+    pub handles: Span,
+    pub auth: Span,
+    pub parameters: Span,
+    pub sessions: Sessions,
+}
+
+/// The refusal's number, and the parts where it is 0; else they are zeros.
+#[repr(C)]
+#[derive(Clone, Copy, Debug, Default, PartialEq, Eq)]
+pub struct Parts {
+    pub refusal: u32,
+    pub frame: Frame,
+}
+
+/// What a writer takes beside the tag or the code: handle bytes, sessions, the bytes that their places point into, and
+/// parameter bytes.
+#[derive(Clone, Copy)]
+pub struct Handed<'a> {
+    pub handles: &'a [u8],
+    pub sessions: Sessions,
+    pub lent: &'a [u8],
+    pub parameters: &'a [u8],
+}
+
+/// A slice as C takes it: where it starts, and its length.
+trait Lent {
+    type Start;
+    fn lent(self) -> (Self::Start, usize);
+}
+
+impl<T> Lent for &[T] {
+    type Start = *const T;
+    fn lent(self) -> (Self::Start, usize) {
+        (self.as_ptr(), self.len())
+    }
+}
+
+impl<T> Lent for &mut [T] {
+    type Start = *mut T;
+    fn lent(self) -> (Self::Start, usize) {
+        (self.as_mut_ptr(), self.len())
+    }
+}
+
+/// Makes a safe function of each of the library's that is named here without its prefix. The brackets hold the slice
+/// that it takes, if it takes one; the lent array is always last.
+macro_rules! calls {
+    ($prefix:expr; $($vis:vis fn $name:ident(
+        $($before:ident: $b:ty,)* [$($s:ident: $slice:ty)?] $(, $after:ident: $a:ty)*
+    );)*) => {$(
+        $vis fn $name($($before: $b,)* $($s: $slice,)? $($after: $a,)* out: &mut Out) -> u32 {
+            unsafe extern "C" {
+                #[link_name = concat!($prefix, stringify!($name))]
+                fn call(
+                    $($before: $b,)* $($s: <$slice as Lent>::Start, len: usize,)? $($after: $a,)* out: &mut Out
+                ) -> u32;
+            }
+            $(let ($s, len) = $s.lent();)?
+            // SAFETY: the types are those that the header declares; start and length are those of one slice, which is
+            // borrowed for the call, as is every array; what is borrowed to be written to overlaps nothing.
+            unsafe { call($($before,)* $($s, len,)? $($after,)* out) }
+        }
+    )*};
+}
+
+calls! {
+    "skein_";
+
+    pub fn read_u16(place: usize, [s: &[u8]]);
+    pub fn read_u32(place: usize, [s: &[u8]]);
+    pub fn write_u16(place: usize, n: u16, [s: &mut [u8]]);
+    pub fn write_u32(place: usize, n: u32, [s: &mut [u8]]);
+
+    pub fn rc_read(rc: u32, []);
+    pub fn rc_value(kind: u32, base: u32, index: u8, []);
+
+    pub fn tpm2b_validate_prefix(capacity: usize, [s: &[u8]]);
+    pub fn tpm2b_validate(capacity: usize, [s: &[u8]]);
+    pub fn tpm2b_cast(capacity: usize, [s: &[u8]]);
+    pub fn tpm2b_cast_prefix(capacity: usize, [s: &[u8]]);
+    pub fn tpm2b_size([s: &[u8]]);
+    pub fn tpm2b_data([s: &[u8]]);
+    pub fn tpm2b_is_empty([s: &[u8]]);
+    pub fn tpm2b_len([s: &[u8]]);
+
+    pub fn table_find(cc: u32, []);
+    pub fn table_known(cc: u32, []);
+    pub fn tag_known(tag: u16, []);
+
+    pub fn frame_tag([s: &[u8]]);
+    pub fn frame_size([s: &[u8]]);
+    pub fn frame_set_tag(tag: u16, [s: &mut [u8]]);
+    pub fn frame_len([s: &[u8]]);
+    pub fn frame_is_empty([s: &[u8]]);
+
+    pub fn command_cast([s: &[u8]]);
+    pub fn command_cast_prefix([s: &[u8]]);
+    pub fn command_validate([s: &[u8]]);
+    pub fn command_cc([s: &[u8]]);
+    pub fn command_set_cc(cc: u32, [s: &mut [u8]]);
+    pub fn command_handles([s: &[u8]]);
+    pub fn command_auth_area([s: &[u8]]);
+    pub fn command_parameters([s: &[u8]]);
+
+    pub fn response_cast([s: &[u8]]);
+    pub fn response_cast_prefix([s: &[u8]]);
+    pub fn response_validate(cc: u32, [s: &[u8]]);
+    pub fn response_rc([s: &[u8]]);
+    pub fn response_set_rc(rc: u32, [s: &mut [u8]]);
+    pub fn response_body([s: &[u8]]);
+}
+
+// ---- all parts by value, and the writers
+//
+// The library is lowered for x86-64. Where the proved module is compiled for Arm, what comes back by value still goes by a
+// pointer that is the first argument, and compare/arm.ll has writers that take the sessions by a pointer, as Arm passes them.
+
+/// Makes a safe function of a call that gives all parts.
+macro_rules! parts {
+    ($($name:ident = $call:ident($($before:ident: $b:ty)?);)*) => {$(
+        pub fn $name($($before: $b,)? s: &[u8], out: &mut Out) -> Parts {
+            unsafe extern "C" {
+                #[cfg(not(target_arch = "aarch64"))]
+                fn $call($($before: $b,)? s: *const u8, len: usize, out: &mut Out) -> Parts;
+                #[cfg(target_arch = "aarch64")]
+                fn $call(parts: &mut Parts, $($before: $b,)? s: *const u8, len: usize, out: &mut Out) -> *mut Parts;
+            }
+            let (start, len) = s.lent();
+            // SAFETY: as above.
+            #[cfg(not(target_arch = "aarch64"))]
+            let parts = unsafe { $call($($before,)? start, len, out) };
+            #[cfg(target_arch = "aarch64")]
+            let parts = {
+                let mut parts = Parts::default();
+                // SAFETY: as above; the parts are written to where the first argument points, and that comes back.
+                unsafe { $call(&mut parts, $($before,)? start, len, out) };
+                parts
+            };
+            parts
+        }
+    )*};
+}
+
+parts! {
+    command_parts = skein_command_parts();
+    response_parts = skein_response_parts(cc: u32);
+}
+
+/// The sessions as a writer takes them.
+#[cfg(not(target_arch = "aarch64"))]
+type Passed<'a> = Sessions;
+#[cfg(target_arch = "aarch64")]
+type Passed<'a> = &'a Sessions;
+
+fn passed(sessions: &Sessions) -> Passed<'_> {
+    #[cfg(not(target_arch = "aarch64"))]
+    return *sessions;
+    #[cfg(target_arch = "aarch64")]
+    return sessions;
+}
+
+/// Makes a safe function of a writer, which takes a number and the command's code before what it is handed.
+macro_rules! writers {
+    ($($name:ident = $call:literal or $arm:literal ($number:ident: $n:ty);)*) => {$(
+        pub fn $name($number: $n, cc: u32, given: Handed, room: &mut [u8], out: &mut Out) -> u32 {
+            unsafe extern "C" {
+                #[cfg_attr(not(target_arch = "aarch64"), link_name = $call)]
+                #[cfg_attr(target_arch = "aarch64", link_name = $arm)]
+                fn call(
+                    $number: $n,
+                    cc: u32,
+                    handles: *const u8,
+                    handles_len: usize,
+                    sessions: Passed,
+                    lent: *const u8,
+                    lent_len: usize,
+                    parameters: *const u8,
+                    parameters_len: usize,
+                    room: *mut u8,
+                    room_len: usize,
+                    out: &mut Out,
+                ) -> u32;
+            }
+            let Handed { handles, sessions, lent, parameters } = given;
+            let ((handles, h), (lent, l), (parameters, p)) = (handles.lent(), lent.lent(), parameters.lent());
+            let (room, r) = room.lent();
+            // SAFETY: as above; the room is borrowed apart from all else.
+            unsafe { call($number, cc, handles, h, passed(&sessions), lent, l, parameters, p, room, r, out) }
+        }
+    )*};
+}
+
+writers! {
+    command_write = "skein_command_write" or "skein_arm_command_write" (tag: u16);
+    response_write = "skein_response_write" or "skein_arm_response_write" (rc: u32);
+}
+
+/// The data of a fixed buffer, an array as long as the capacity, and the calls of that capacity.
+pub trait Data: Sized {
+    #[allow(clippy::new_ret_no_self)]
+    fn new(data: &mut Self, out: &mut Out) -> u32;
+    fn push(byte: u8, size: u16, data: &mut Self, out: &mut Out) -> u32;
+    fn extend(s: &[u8], size: u16, data: &mut Self, out: &mut Out) -> u32;
+    fn held(size: u16, data: &Self, room: &mut [u8], out: &mut Out) -> u32;
+    fn eq(size: u16, data: &Self, other_size: u16, other: &Self, out: &mut Out) -> u32;
+    fn wire_len(size: u16, out: &mut Out) -> u32;
+    fn marshal(size: u16, data: &Self, room: &mut [u8], out: &mut Out) -> u32;
+    fn unmarshal(s: &[u8], data: &mut Self, out: &mut Out) -> u32;
+    fn from_slice(s: &[u8], data: &mut Self, out: &mut Out) -> u32;
+}
+
+macro_rules! capacities {
+    ($($capacity:literal)*) => {$(
+        impl Data for [u8; $capacity] {
+            calls! {
+                concat!("skein_buffer", $capacity, "_");
+
+                fn new(data: &mut [u8; $capacity], []);
+                fn push(byte: u8, size: u16, data: &mut [u8; $capacity], []);
+                fn extend([s: &[u8]], size: u16, data: &mut [u8; $capacity]);
+                fn held(size: u16, data: &[u8; $capacity], [room: &mut [u8]]);
+                fn eq(size: u16, data: &[u8; $capacity], other_size: u16, other: &[u8; $capacity], []);
+                fn wire_len(size: u16, []);
+                fn marshal(size: u16, data: &[u8; $capacity], [room: &mut [u8]]);
+                fn unmarshal([s: &[u8]], data: &mut [u8; $capacity]);
+                fn from_slice([s: &[u8]], data: &mut [u8; $capacity]);
+            }
+        }
+    )*};
+}
+
+capacities!(64 1024);
