@@ -164,32 +164,17 @@ calls! {
 }
 
 // ---- all parts by value, and the writers
-//
-// The library is lowered for x86-64. Where the proved module is compiled for Arm, what comes back by value still goes by a
-// pointer that is the first argument, and compare/arm.ll has writers that take the sessions by a pointer, as Arm passes them.
 
 /// Makes a safe function of a call that gives all parts.
 macro_rules! parts {
     ($($name:ident = $call:ident($($before:ident: $b:ty)?);)*) => {$(
         pub fn $name($($before: $b,)? s: &[u8], out: &mut Out) -> Parts {
             unsafe extern "C" {
-                #[cfg(not(target_arch = "aarch64"))]
                 fn $call($($before: $b,)? s: *const u8, len: usize, out: &mut Out) -> Parts;
-                #[cfg(target_arch = "aarch64")]
-                fn $call(parts: &mut Parts, $($before: $b,)? s: *const u8, len: usize, out: &mut Out) -> *mut Parts;
             }
             let (start, len) = s.lent();
             // SAFETY: as above.
-            #[cfg(not(target_arch = "aarch64"))]
-            let parts = unsafe { $call($($before,)? start, len, out) };
-            #[cfg(target_arch = "aarch64")]
-            let parts = {
-                let mut parts = Parts::default();
-                // SAFETY: as above; the parts are written to where the first argument points, and that comes back.
-                unsafe { $call(&mut parts, $($before,)? start, len, out) };
-                parts
-            };
-            parts
+            unsafe { $call($($before,)? start, len, out) }
         }
     )*};
 }
@@ -199,32 +184,17 @@ parts! {
     response_parts = skein_response_parts(cc: u32);
 }
 
-/// The sessions as a writer takes them.
-#[cfg(not(target_arch = "aarch64"))]
-type Passed<'a> = Sessions;
-#[cfg(target_arch = "aarch64")]
-type Passed<'a> = &'a Sessions;
-
-fn passed(sessions: &Sessions) -> Passed<'_> {
-    #[cfg(not(target_arch = "aarch64"))]
-    return *sessions;
-    #[cfg(target_arch = "aarch64")]
-    return sessions;
-}
-
 /// Makes a safe function of a writer, which takes a number and the command's code before what it is handed.
 macro_rules! writers {
-    ($($name:ident = $call:literal or $arm:literal ($number:ident: $n:ty);)*) => {$(
+    ($($name:ident = $call:ident($number:ident: $n:ty);)*) => {$(
         pub fn $name($number: $n, cc: u32, given: Handed, room: &mut [u8], out: &mut Out) -> u32 {
             unsafe extern "C" {
-                #[cfg_attr(not(target_arch = "aarch64"), link_name = $call)]
-                #[cfg_attr(target_arch = "aarch64", link_name = $arm)]
-                fn call(
+                fn $call(
                     $number: $n,
                     cc: u32,
                     handles: *const u8,
                     handles_len: usize,
-                    sessions: Passed,
+                    sessions: Sessions,
                     lent: *const u8,
                     lent_len: usize,
                     parameters: *const u8,
@@ -238,14 +208,14 @@ macro_rules! writers {
             let ((handles, h), (lent, l), (parameters, p)) = (handles.lent(), lent.lent(), parameters.lent());
             let (room, r) = room.lent();
             // SAFETY: as above; the room is borrowed apart from all else.
-            unsafe { call($number, cc, handles, h, passed(&sessions), lent, l, parameters, p, room, r, out) }
+            unsafe { $call($number, cc, handles, h, sessions, lent, l, parameters, p, room, r, out) }
         }
     )*};
 }
 
 writers! {
-    command_write = "skein_command_write" or "skein_arm_command_write" (tag: u16);
-    response_write = "skein_response_write" or "skein_arm_response_write" (rc: u32);
+    command_write = skein_command_write(tag: u16);
+    response_write = skein_response_write(rc: u32);
 }
 
 /// The data of a fixed buffer, an array as long as the capacity, and the calls of that capacity.

@@ -42,7 +42,7 @@ impl fmt::Display for TpmRcIndex {
 ///
 /// let rc = TpmRc::try_from(0x1C4)?;
 /// assert_eq!(rc, TpmRc::Fmt1 { base: TpmRcBase::Value, index: Some(TpmRcIndex::Parameter(1)) });
-/// assert_eq!(rc.to_string(), "TPM_RC_VALUE, parameter 1");
+/// assert_eq!(rc.to_string(), "TPM_RC_VALUE (parameter 1)");
 /// assert_eq!(rc.value(), 0x1C4);
 ///
 /// assert_eq!(TpmRc::try_from(0x922)?, TpmRc::Warn(TpmRcBase::Retry));
@@ -157,6 +157,6 @@ impl From<TpmRc> for u32 {
 impl fmt::Display for TpmRc {
     fn fmt(&self, f: &mut fmt::Formatter) -> fmt::Result {
         write!(f, "{}", self.base())?;
-        self.index().map_or(Ok(()), |index| write!(f, ", {index}"))
+        self.index().map_or(Ok(()), |index| write!(f, " ({index})"))
     }
 }

@@ -17,7 +17,7 @@ macro_rules! refusals {
         /// let refusal = TpmCommand::cast(&[0x80, 0x01]).unwrap_err();
         /// assert_eq!(refusal, Refusal::UnexpectedEnd { offset: 0, needed: 10, available: 2 });
         /// assert_eq!((refusal.number(), refusal.name()), (1, "UnexpectedEnd"));
-        /// assert_eq!(refusal.to_string(), "the bytes end too early: 10 are needed at byte 0, and 2 are there");
+        /// assert_eq!(refusal.to_string(), "the bytes end too early at byte 0: needed 10, available 2");
         /// ```
         #[derive(Clone, Copy, Debug, PartialEq, Eq, Hash)]
         #[non_exhaustive]
@@ -111,7 +111,7 @@ macro_rules! refusals {
             fn fmt(&self, f: &mut fmt::Formatter) -> fmt::Result {
                 match *self {
                     $(Self::$name { $($field,)* } => write!(f, $words),)*
-                    Self::Unlisted { offset, number } => write!(f, "refused with the number {number} at byte {offset}"),
+                    Self::Unlisted { offset, number } => write!(f, "refused at byte {offset} by the number {number}"),
                 }
             }
         }
@@ -127,7 +127,7 @@ refusals! {
         needed: usize,
         /// How many there are.
         available: usize,
-    } "the bytes end too early: {needed} are needed at byte {offset}, and {available} are there"
+    } "the bytes end too early at byte {offset}: needed {needed}, available {available}"
 
     /// Bytes behind the end.
     2 TrailingData {
@@ -135,7 +135,7 @@ refusals! {
         offset: usize,
         /// How many there are.
         actual: usize,
-    } "there are bytes behind the end: {actual} from byte {offset} on"
+    } "bytes behind the end at byte {offset}: {actual} too many"
 
     /// A tag that is none, or does not go with the rest.
     3 InvalidTag {
@@ -143,7 +143,7 @@ refusals! {
         offset: usize,
         /// The tag.
         value: u64,
-    } "0x{value:04X} at byte {offset} is no tag that may stand there"
+    } "a tag that may not stand at byte {offset}: 0x{value:04X}"
 
     /// A command code that is none.
     4 InvalidCc {
@@ -151,7 +151,7 @@ refusals! {
         offset: usize,
         /// The code.
         value: u64,
-    } "0x{value:08X} is no command code (byte {offset})"
+    } "a command code that is none at byte {offset}: 0x{value:08X}"
 
     /// A response code that is none.
     5 InvalidRc {
@@ -159,7 +159,7 @@ refusals! {
         offset: usize,
         /// The code.
         value: u64,
-    } "0x{value:08X} is no response code (byte {offset})"
+    } "a response code that is none at byte {offset}: 0x{value:08X}"
 
     /// More items than there may be.
     6 TooManyItems {
@@ -169,7 +169,7 @@ refusals! {
         limit: usize,
         /// How many there are up to here.
         actual: usize,
-    } "there are too many items at byte {offset}: {actual}, where at most {limit} may be"
+    } "too many items at byte {offset}: {actual}, at most {limit}"
 
     /// A number too large for its field.
     7 IntegerTooLarge {
@@ -177,7 +177,7 @@ refusals! {
         offset: usize,
         /// The number.
         value: u64,
-    } "{value} is too large for its field at byte {offset}"
+    } "a number too large at byte {offset}: {value}"
 
     /// More bytes than the capacity.
     8 TooManyBytes {
@@ -187,7 +187,7 @@ refusals! {
         limit: usize,
         /// How many there are to be.
         actual: usize,
-    } "there are too many bytes at byte {offset}: {actual}, where at most {limit} may be"
+    } "too many bytes at byte {offset}: {actual}, at most {limit}"
 
     /// Lent room is too short.
     9 BufferOverflow {
@@ -197,7 +197,7 @@ refusals! {
         needed: usize,
         /// How many there are.
         available: usize,
-    } "the room is too short: {needed} bytes are needed at byte {offset}, and {available} are there"
+    } "the room is too short at byte {offset}: needed {needed}, available {available}"
 }
 
 impl core::error::Error for Refusal {}

@@ -78,7 +78,7 @@ fn every_code_that_reads_has_a_name() {
 /// The same names beside those of tpm2-protocol, where that is linked.
 #[cfg(oracle)]
 mod beside_the_crate {
-    use skeinloft::{TpmCc, TpmRcBase, TpmSt, TpmaSession};
+    use skeinloft::{TpmCc, TpmRcBase, TpmRh, TpmSt, TpmaSession};
     use std::collections::BTreeMap;
     use tpm2_protocol::data;
 
@@ -119,6 +119,14 @@ mod beside_the_crate {
         for tag in 0..=u16::MAX {
             let theirs = data::TpmSt::try_from(tag).ok().map(|tag| tag.to_string());
             assert_eq!(TpmSt(tag).name().map(str::to_owned), theirs, "0x{tag:X}");
+        }
+    }
+
+    #[test]
+    fn handles_are_named_alike() {
+        for handle in (0x4000_0000..0x4000_1000).chain(0x4001_0000..0x4005_0000) {
+            let theirs = data::TpmRh::try_from(handle).ok().map(|handle| handle.to_string());
+            assert_eq!(TpmRh(handle).name().map(str::to_owned), theirs, "0x{handle:X}");
         }
     }
 
