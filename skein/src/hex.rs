@@ -35,9 +35,11 @@ pub fn unhex(word: &[u8], bytes: &mut Vec<u8>) -> Result<(), String> {
 }
 
 fn no_digit(byte: u8, place: usize) -> String {
-    let shown = char::from(byte);
-    let hint = if byte.is_ascii_graphic() { "" } else { "; a file of raw bytes is read with --raw" };
-    format!("{shown:?} is no hexadecimal digit (digit {place} of the frame){hint}")
+    if byte.is_ascii_graphic() {
+        format!("'{}' is no hexadecimal digit (digit {place} of the frame)", char::from(byte))
+    } else {
+        format!("the byte 0x{byte:02x} is no hexadecimal digit; a file of raw bytes is read with --raw")
+    }
 }
 
 #[cfg(test)]

@@ -53,10 +53,10 @@ pub enum Inside {
     Fields(Vec<Part>),
 }
 
-const ALONE_COMMAND: &str = "it stands alone, and is taken for a command by its code";
-const ALONE_RESPONSE: &str = "it stands alone, and is taken for a response, since its code is no command's; \
-                              its command is not known (--answers-to), and its header alone is judged";
-const NO_COMMAND: &str = "its command has no code, and its header alone is judged";
+const ALONE_COMMAND: &str = "a command, since it stands alone";
+const ALONE_RESPONSE: &str = "a response, since it stands alone and its code is no command's; \
+                              its command is not known (--answers-to), so only its header is judged";
+const NO_COMMAND: &str = "a response to a command that is not known, since that has no code; only its header is judged";
 
 /// Looks at a frame.
 pub fn look(bytes: &[u8], role: Role) -> Seen<'_> {

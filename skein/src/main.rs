@@ -139,9 +139,9 @@ impl<W: Write> Show<W> {
         if self.json || frames + bad < 2 {
             return Ok(());
         }
-        write!(self.out, "{frames} frames: {} pass, {refused} refused", frames - refused)?;
+        write!(self.out, "frames {frames}, pass {}, refused {refused}", frames - refused)?;
         if bad > 0 {
-            write!(self.out, "; {bad} times no frame")?;
+            write!(self.out, ", unreadable {bad}")?;
         }
         writeln!(self.out)
     }

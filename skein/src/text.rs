@@ -12,7 +12,7 @@ const ROW: usize = 32;
 pub fn show(place: Place, seen: &Seen, out: &mut impl Write) -> io::Result<()> {
     title(place, seen, out)?;
     if let Some(assumed) = seen.assumed {
-        writeln!(out, "  {assumed}")?;
+        writeln!(out, "  assumed: {assumed}")?;
     }
     match &seen.verdict {
         Ok(parts) => parts.iter().try_for_each(|part| show_part(seen.bytes, part, 0, 0, out))?,
