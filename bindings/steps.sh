@@ -30,7 +30,7 @@ rust() { # SOURCE OUT [WORDS..]
     source=$1 out=$2
     shift 2
     CARGO_MANIFEST_DIR=$crate CARGO_PKG_VERSION=$(sed -n 's/^version = "\(.*\)"/\1/p' "$crate/Cargo.toml") \
-        "$RUSTC" --edition 2024 -C opt-level=3 --check-cfg 'cfg(oracle)' -L "native=$SKEINLOFT_LIB_DIR" -o "$out" "$source" "$@"
+        "$RUSTC" --edition 2024 -C opt-level=3 --check-cfg 'cfg(oracle, test)' -L "native=$SKEINLOFT_LIB_DIR" -o "$out" "$source" "$@"
 }
 
 # Compiles the crate skeinloft.

@@ -65,12 +65,12 @@ pub struct Parts {
     pub frame: Frame,
 }
 
-/// What a writer takes beside the tag or the code: handle bytes, sessions, the bytes that their places point into, and
-/// parameter bytes.
+/// What a writer takes beside the tag or the code: handle bytes, sessions in a record or in a slice, the bytes that their
+/// places point into, and parameter bytes.
 #[derive(Clone, Copy)]
-pub struct Handed<'a> {
+pub struct Handed<'a, S = Sessions> {
     pub handles: &'a [u8],
-    pub sessions: Sessions,
+    pub sessions: S,
     pub lent: &'a [u8],
     pub parameters: &'a [u8],
 }
@@ -81,15 +81,15 @@ trait Lent {
     fn lent(self) -> (Self::Start, usize);
 }
 
-impl<T> Lent for &[T] {
-    type Start = *const T;
+impl Lent for &[u8] {
+    type Start = *const u8;
     fn lent(self) -> (Self::Start, usize) {
         (self.as_ptr(), self.len())
     }
 }
 
-impl<T> Lent for &mut [T] {
-    type Start = *mut T;
+impl Lent for &mut [u8] {
+    type Start = *mut u8;
     fn lent(self) -> (Self::Start, usize) {
         (self.as_mut_ptr(), self.len())
     }
@@ -184,17 +184,20 @@ parts! {
     response_parts = skein_response_parts(cc: u32);
 }
 
-/// Makes a safe function of a writer, which takes a number and the command's code before what it is handed.
+/// Makes a safe function of a writer, which takes a number and the command's code before what it is handed; behind `as` is
+/// how C takes the sessions.
 macro_rules! writers {
-    ($($name:ident = $call:ident($number:ident: $n:ty);)*) => {$(
-        pub fn $name($number: $n, cc: u32, given: Handed, room: &mut [u8], out: &mut Out) -> u32 {
+    ($($name:ident = $call:ident(
+        $number:ident: $n:ty, $sessions:ident: $s:ty as $($passed:ident: $p:ty = $value:expr),+
+    );)*) => {$(
+        pub fn $name($number: $n, cc: u32, given: Handed<$s>, room: &mut [u8], out: &mut Out) -> u32 {
             unsafe extern "C" {
                 fn $call(
                     $number: $n,
                     cc: u32,
                     handles: *const u8,
                     handles_len: usize,
-                    sessions: Sessions,
+                    $($passed: $p,)+
                     lent: *const u8,
                     lent_len: usize,
                     parameters: *const u8,
@@ -204,18 +207,24 @@ macro_rules! writers {
                     out: &mut Out,
                 ) -> u32;
             }
-            let Handed { handles, sessions, lent, parameters } = given;
+            let Handed { handles, sessions: $sessions, lent, parameters } = given;
             let ((handles, h), (lent, l), (parameters, p)) = (handles.lent(), lent.lent(), parameters.lent());
             let (room, r) = room.lent();
-            // SAFETY: as above; the room is borrowed apart from all else.
-            unsafe { $call($number, cc, handles, h, sessions, lent, l, parameters, p, room, r, out) }
+            // SAFETY: as above.
+            unsafe { $call($number, cc, handles, h, $($value,)+ lent, l, parameters, p, room, r, out) }
         }
     )*};
 }
 
 writers! {
-    command_write = skein_command_write(tag: u16);
-    response_write = skein_response_write(rc: u32);
+    command_write = skein_command_write(tag: u16, three: Sessions as record: Sessions = three);
+    response_write = skein_response_write(rc: u32, three: Sessions as record: Sessions = three);
+    command_write_array = skein_command_write_array(
+        tag: u16, all: &[Session] as sessions: *const Session = all.as_ptr(), count: usize = all.len()
+    );
+    response_write_array = skein_response_write_array(
+        rc: u32, all: &[Session] as sessions: *const Session = all.as_ptr(), count: usize = all.len()
+    );
 }
 
 /// The data of a fixed buffer, an array as long as the capacity, and the calls of that capacity.

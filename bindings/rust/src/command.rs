@@ -1,11 +1,11 @@
 //! Commands.
 
-use crate::calls::{self, Handed};
+use crate::calls;
 use crate::cc::TpmCc;
 use crate::refusal::Refusal;
 use crate::session::Sessions;
 use crate::st::TpmSt;
-use crate::view::{Areas, ask, ask_parts, part, split};
+use crate::view::{Areas, ask, ask_parts, ask_split, ask_tag, part};
 
 /// A command frame, borrowed: bytes that [`cast`](Self::cast) let through.
 ///
@@ -58,8 +58,7 @@ impl<'a> TpmCommand<'a> {
     /// # Ok::<(), skeinloft::Refusal>(())
     /// ```
     pub fn cast_prefix(bytes: &'a [u8]) -> Result<(Self, &'a [u8]), Refusal> {
-        let (frame, tail) = split(bytes, ask(|out| calls::command_cast_prefix(bytes, out))?);
-        Ok((Self(frame), tail))
+        ask_split(bytes, calls::command_cast_prefix).map(|(frame, tail)| (Self(frame), tail))
     }
 
     /// The bytes of the whole frame.
@@ -88,8 +87,7 @@ impl<'a> TpmCommand<'a> {
     /// # Ok::<(), skeinloft::Refusal>(())
     /// ```
     pub fn tag(&self) -> Result<TpmSt, Refusal> {
-        let [tag, ..] = ask(|out| calls::frame_tag(self.0, out))?;
-        Ok(TpmSt(tag as u16))
+        ask_tag(self.0)
     }
 
     /// The command code.
@@ -124,7 +122,7 @@ impl<'a> TpmCommand<'a> {
     /// # Ok::<(), skeinloft::Refusal>(())
     /// ```
     pub fn handles(&self) -> Result<&'a [u8], Refusal> {
-        self.area(calls::command_handles)
+        ask_split(self.0, calls::command_handles).map(|(area, _)| area)
     }
 
     /// The entries of the authorization area, without the size before them; empty under the plain tag.
@@ -143,7 +141,7 @@ impl<'a> TpmCommand<'a> {
     /// # Ok::<(), skeinloft::Refusal>(())
     /// ```
     pub fn auth_area(&self) -> Result<&'a [u8], Refusal> {
-        self.area(calls::command_auth_area)
+        ask_split(self.0, calls::command_auth_area).map(|(area, _)| area)
     }
 
     /// The parameters.
@@ -160,11 +158,7 @@ impl<'a> TpmCommand<'a> {
     /// # Ok::<(), skeinloft::Refusal>(())
     /// ```
     pub fn parameters(&self) -> Result<&'a [u8], Refusal> {
-        self.area(calls::command_parameters)
-    }
-
-    fn area(&self, call: fn(&[u8], &mut calls::Out) -> u32) -> Result<&'a [u8], Refusal> {
-        Ok(split(self.0, ask(|out| call(self.0, out))?).0)
+        ask_split(self.0, calls::command_parameters).map(|(area, _)| area)
     }
 
     /// Checks the command whole, with the entries of its authorization area.
@@ -293,8 +287,7 @@ impl CommandParts<'_> {
     /// ```
     #[doc(alias = "tpm_marshal_command")]
     pub fn marshal(&self, room: &mut [u8]) -> Result<usize, Refusal> {
-        let Sessions { record: sessions, lent } = self.sessions;
-        let handed = Handed { handles: self.handles, sessions, lent, parameters: self.parameters };
+        let handed = self.sessions.handed(self.handles, self.parameters);
         let [len, ..] = ask(|out| calls::command_write(self.tag.0, self.cc.0, handed, room, out))?;
         Ok(len as usize)
     }

@@ -1,12 +1,12 @@
 //! Responses.
 
-use crate::calls::{self, Handed};
+use crate::calls;
 use crate::cc::TpmCc;
 use crate::rc::TpmRc;
 use crate::refusal::Refusal;
 use crate::session::Sessions;
 use crate::st::TpmSt;
-use crate::view::{Areas, ask, ask_parts, part, split};
+use crate::view::{Areas, ask, ask_parts, ask_split, ask_tag, part};
 
 /// A response frame, borrowed: bytes that [`cast`](Self::cast) let through.
 ///
@@ -56,8 +56,7 @@ impl<'a> TpmResponse<'a> {
     /// # Ok::<(), skeinloft::Refusal>(())
     /// ```
     pub fn cast_prefix(bytes: &'a [u8]) -> Result<(Self, &'a [u8]), Refusal> {
-        let (frame, tail) = split(bytes, ask(|out| calls::response_cast_prefix(bytes, out))?);
-        Ok((Self(frame), tail))
+        ask_split(bytes, calls::response_cast_prefix).map(|(frame, tail)| (Self(frame), tail))
     }
 
     /// The bytes of the whole frame.
@@ -86,8 +85,7 @@ impl<'a> TpmResponse<'a> {
     /// # Ok::<(), skeinloft::Refusal>(())
     /// ```
     pub fn tag(&self) -> Result<TpmSt, Refusal> {
-        let [tag, ..] = ask(|out| calls::frame_tag(self.0, out))?;
-        Ok(TpmSt(tag as u16))
+        ask_tag(self.0)
     }
 
     /// The response code.
@@ -234,8 +232,7 @@ impl ResponseParts<'_> {
     /// ```
     #[doc(alias = "tpm_marshal_response")]
     pub fn marshal(&self, cc: TpmCc, room: &mut [u8]) -> Result<usize, Refusal> {
-        let Sessions { record: sessions, lent } = self.sessions;
-        let handed = Handed { handles: self.handles, sessions, lent, parameters: self.parameters };
+        let handed = self.sessions.handed(self.handles, self.parameters);
         let [len, ..] = ask(|out| calls::response_write(self.rc.value(), cc.0, handed, room, out))?;
         Ok(len as usize)
     }

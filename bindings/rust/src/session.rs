@@ -1,6 +1,6 @@
 //! Sessions: the entries of an authorization area.
 
-use crate::calls::{self, Field, Session};
+use crate::calls::{self, Field, Handed, Session};
 use crate::refusal::Refusal;
 use core::fmt;
 use core::ops::BitOr;
@@ -168,6 +168,11 @@ impl<'a> Sessions<'a> {
             *place = Session { handle: entry.session_handle, nonce, attributes, hmac };
         }
         Ok(Self { record, lent: room })
+    }
+
+    /// As the writers take them, between handles and parameters.
+    pub(crate) const fn handed<'b>(&'b self, handles: &'b [u8], parameters: &'b [u8]) -> Handed<'b> {
+        Handed { handles, sessions: self.record, lent: self.lent, parameters }
     }
 
     /// How many there are.

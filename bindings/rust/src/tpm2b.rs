@@ -2,7 +2,7 @@
 
 use crate::calls;
 use crate::refusal::Refusal;
-use crate::view::{ask, split};
+use crate::view::{ask, ask_split};
 
 /// A TPM2B, borrowed: a size of two bytes and that many bytes, at most `CAPACITY`.
 ///
@@ -49,8 +49,8 @@ impl<'a, const CAPACITY: usize> Tpm2b<'a, CAPACITY> {
     /// # Ok::<(), skeinloft::Refusal>(())
     /// ```
     pub fn cast_prefix(bytes: &'a [u8]) -> Result<(Self, &'a [u8]), Refusal> {
-        let (own, tail) = split(bytes, ask(|out| calls::tpm2b_cast_prefix(CAPACITY, bytes, out))?);
-        Ok((Self(own), tail))
+        let cast = |bytes: &_, out: &mut _| calls::tpm2b_cast_prefix(CAPACITY, bytes, out);
+        ask_split(bytes, cast).map(|(own, tail)| (Self(own), tail))
     }
 
     /// All its bytes, the size and the data.

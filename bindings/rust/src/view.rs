@@ -1,7 +1,8 @@
 //! What all views share: how a call is asked, and how its answer becomes a part of the bytes.
 
-use crate::calls::{Frame, Out, Parts, Span};
+use crate::calls::{self, Frame, Out, Parts, Span};
 use crate::refusal::Refusal;
+use crate::st::TpmSt;
 use core::ops::Range;
 
 /// Makes a call: the answer's numbers, or the refusal.
@@ -24,9 +25,16 @@ pub(crate) fn ask_parts(call: impl FnOnce(&mut Out) -> Parts) -> Result<Frame, R
     Ok(frame)
 }
 
-/// The part of the bytes that a call gives by its start and its end, and the part behind it by the next two numbers.
-pub(crate) fn split(bytes: &[u8], [from, to, tail_from, tail_to]: [u64; 4]) -> (&[u8], &[u8]) {
-    (&bytes[from as usize..to as usize], &bytes[tail_from as usize..tail_to as usize])
+/// Makes a call that gives a part of the bytes by its start and its end, and what is behind it by the next two numbers.
+pub(crate) fn ask_split(bytes: &[u8], call: impl FnOnce(&[u8], &mut Out) -> u32) -> Result<(&[u8], &[u8]), Refusal> {
+    let [from, to, tail_from, tail_to] = ask(|out| call(bytes, out))?.map(|place| place as usize);
+    Ok((&bytes[from..to], &bytes[tail_from..tail_to]))
+}
+
+/// The tag of a frame.
+pub(crate) fn ask_tag(bytes: &[u8]) -> Result<TpmSt, Refusal> {
+    let [tag, ..] = ask(|out| calls::frame_tag(bytes, out))?;
+    Ok(TpmSt(tag as u16))
 }
 
 pub(crate) fn part(bytes: &[u8], span: Span) -> &[u8] {
