@@ -75,6 +75,3 @@ pub use session::{Sessions, TpmaSession, TpmsAuth};
 pub use st::TpmSt;
 pub use tpm2b::Tpm2b;
 pub use view::Areas;
-
-#[cfg(test)]
-extern crate std;

@@ -214,6 +214,12 @@ mod tests {
     }
 
     #[test]
+    fn it_goes_where_errors_go() {
+        fn taken<T: core::error::Error + Send + Sync + 'static>(_: T) {}
+        taken(Refusal::new(1, &[0; 8]));
+    }
+
+    #[test]
     fn numbers_are_those_they_were_made_of() {
         for number in 1..=120 {
             let refusal = Refusal::new(number, &[0; 8]);
