@@ -5,9 +5,9 @@ use crate::hex::Hex;
 use crate::input::Place;
 use crate::look::{Inside, Kind, Part, Seen};
 use skeinloft::Refusal;
-use std::io::{self, Write};
+use std::fmt::{self, Write};
 
-pub fn show(place: Place, seen: &Seen, out: &mut impl Write) -> io::Result<()> {
+pub fn show(place: Place, seen: &Seen, out: &mut String) -> fmt::Result {
     match place {
         Place::Line(line) => write!(out, "{{\"line\":{line}")?,
         Place::Byte(byte) => write!(out, "{{\"byte\":{byte}")?,
@@ -31,21 +31,21 @@ pub fn show(place: Place, seen: &Seen, out: &mut impl Write) -> io::Result<()> {
     writeln!(out, "}}")
 }
 
-fn show_refusal(bytes: &[u8], refusal: &Refusal, out: &mut impl Write) -> io::Result<()> {
+fn show_refusal(bytes: &[u8], refusal: &Refusal, out: &mut String) -> fmt::Result {
     write!(out, ",\"refusal\":{{\"number\":{},\"name\":\"{}\"", refusal.number(), refusal.name())?;
     refusal.fields().try_for_each(|(field, value)| write!(out, ",\"{field}\":{value}"))?;
     write!(out, ",\"words\":\"{refusal}\"}},\"bytes\":\"{}\"", Hex(bytes))
 }
 
 /// Parts by their names, behind what stands in the object already.
-fn fields(bytes: &[u8], parts: &[Part], out: &mut impl Write) -> io::Result<()> {
+fn fields(bytes: &[u8], parts: &[Part], out: &mut String) -> fmt::Result {
     parts.iter().try_for_each(|part| {
         write!(out, ",\"{}\":", part.name.replace(' ', "_").to_lowercase())?;
         object(bytes, part, out)
     })
 }
 
-fn object(bytes: &[u8], part: &Part, out: &mut impl Write) -> io::Result<()> {
+fn object(bytes: &[u8], part: &Part, out: &mut String) -> fmt::Result {
     write!(out, "{{\"from\":{},\"to\":{},\"bytes\":\"{}\"", part.at.start, part.at.end, Hex(&bytes[part.at.clone()]))?;
     if !part.meaning.is_empty() {
         write!(out, ",\"says\":\"{}\"", part.meaning)?;

@@ -64,7 +64,14 @@ fn inspect(asked: &Inspect) -> u8 {
     };
     let input = BufReader::with_capacity(1 << 16, input);
     let out = BufWriter::with_capacity(1 << 16, io::stdout().lock());
-    let mut show = Show { json: asked.json, name, out, count: Count::default(), progress: Progress::new(all) };
+    let mut show = Show {
+        json: asked.json,
+        name,
+        shown: String::new(),
+        out,
+        count: Count::default(),
+        progress: Progress::new(all),
+    };
     let alone = asked.answers_to.map_or(Role::Alone, |cc| Role::Answer(Some(cc)));
     let read = if asked.raw {
         input::raw(input, alone, asked.pairs, &mut show)
@@ -86,6 +93,8 @@ struct Count {
 struct Show<W: Write> {
     json: bool,
     name: String,
+    /// The frame at hand, as it is shown.
+    shown: String,
     out: W,
     count: Count,
     progress: Progress,
@@ -96,7 +105,10 @@ impl<W: Write> Taker for Show<W> {
         let seen = look::look(bytes, role);
         self.count.frames += 1;
         self.count.refused += u64::from(seen.verdict.is_err());
-        if self.json { json::show(place, &seen, &mut self.out) } else { text::show(place, &seen, &mut self.out) }
+        self.shown.clear();
+        let show = if self.json { json::show } else { text::show };
+        show(place, &seen, &mut self.shown).map_err(io::Error::other)?;
+        self.out.write_all(self.shown.as_bytes())
     }
 
     fn bad(&mut self, place: Place, why: &str) -> io::Result<()> {

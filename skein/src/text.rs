@@ -4,12 +4,12 @@ use crate::hex::Hex;
 use crate::input::Place;
 use crate::look::{Inside, Kind, Part, Seen};
 use skeinloft::Refusal;
-use std::io::{self, Write};
+use std::fmt::{self, Write};
 
 /// Bytes in a row of a part.
 const ROW: usize = 32;
 
-pub fn show(place: Place, seen: &Seen, out: &mut impl Write) -> io::Result<()> {
+pub fn show(place: Place, seen: &Seen, out: &mut String) -> fmt::Result {
     title(place, seen, out)?;
     if let Some(assumed) = seen.assumed {
         writeln!(out, "  assumed: {assumed}")?;
@@ -22,7 +22,7 @@ pub fn show(place: Place, seen: &Seen, out: &mut impl Write) -> io::Result<()> {
 }
 
 /// The line of a frame: where it is, what it is, and whether it passes.
-fn title(place: Place, seen: &Seen, out: &mut impl Write) -> io::Result<()> {
+fn title(place: Place, seen: &Seen, out: &mut String) -> fmt::Result {
     let kind = match seen.kind {
         Kind::Command => "command",
         Kind::Answer(_) => "answer",
@@ -49,7 +49,7 @@ pub fn count(number: usize, thing: &str) -> String {
 }
 
 /// A part in a row: its place, its name, its bytes, and what they say. A part of others has its row above theirs.
-fn show_part(bytes: &[u8], part: &Part, depth: usize, number: usize, out: &mut impl Write) -> io::Result<()> {
+fn show_part(bytes: &[u8], part: &Part, depth: usize, number: usize, out: &mut String) -> fmt::Result {
     let indent = 2 * depth;
     let name = if number == 0 { part.name.to_owned() } else { format!("{} {number}", part.name) };
     write!(out, "{:>7}..{:<6} {:indent$}{name:<width$}", part.at.start, part.at.end, "", width = 20 - indent)?;
@@ -67,7 +67,7 @@ fn show_part(bytes: &[u8], part: &Part, depth: usize, number: usize, out: &mut i
     })
 }
 
-fn show_bytes(bytes: &[u8], meaning: &str, out: &mut impl Write) -> io::Result<()> {
+fn show_bytes(bytes: &[u8], meaning: &str, out: &mut String) -> fmt::Result {
     if bytes.is_empty() {
         return writeln!(out, "-");
     }
@@ -82,7 +82,7 @@ fn show_bytes(bytes: &[u8], meaning: &str, out: &mut impl Write) -> io::Result<(
 }
 
 /// The refusal in words, and the bytes around its place with a mark under it.
-fn show_refusal(seen: &Seen, refusal: &Refusal, out: &mut impl Write) -> io::Result<()> {
+fn show_refusal(seen: &Seen, refusal: &Refusal, out: &mut String) -> fmt::Result {
     let fields: Vec<String> = refusal.fields().map(|(_, value)| value.to_string()).collect();
     writeln!(out, "  {} {}({}): {refusal}", refusal.name(), refusal.number(), fields.join(","))?;
     if matches!((seen.kind, refusal), (Kind::Answer(_), Refusal::InvalidCc { .. })) {
@@ -92,7 +92,7 @@ fn show_refusal(seen: &Seen, refusal: &Refusal, out: &mut impl Write) -> io::Res
 }
 
 /// Rows of 16 bytes, with the row of the place in the middle and a mark under the place.
-fn mark(bytes: &[u8], place: usize, out: &mut impl Write) -> io::Result<()> {
+fn mark(bytes: &[u8], place: usize, out: &mut String) -> fmt::Result {
     const ROW: usize = 16;
     const AROUND: usize = 4;
     let marked = place / ROW;
