@@ -20,7 +20,7 @@ pub fn show(place: Place, seen: &Seen, out: &mut String) -> fmt::Result {
     if let Some(name) = &seen.name {
         write!(out, ",\"name\":\"{name}\"")?;
     }
-    if let Some(assumed) = seen.assumed {
+    if let Some(assumed) = &seen.assumed {
         write!(out, ",\"assumed\":\"{assumed}\"")?;
     }
     write!(out, ",\"passes\":{},\"len\":{}", seen.verdict.is_ok(), seen.bytes.len())?;

@@ -1,7 +1,10 @@
 //! What a frame is: the judgement of the library, and the parts of a frame that passes, each with its place and its meaning.
 
 use crate::text::count;
-use skeinloft::{Areas, Refusal, Sessions, TpmCc, TpmCommand, TpmRc, TpmResponse, TpmRh, TpmSt, TpmsAuth};
+use skeinloft::{
+    Areas, Refusal, ResponseParts, Sessions, TpmCc, TpmCommand, TpmRc, TpmResponse, TpmRh, TpmSt, TpmsAuth,
+};
+use std::borrow::Cow;
 use std::ops::Range;
 
 /// What a frame is to be taken for.
@@ -21,7 +24,7 @@ pub struct Seen<'a> {
     /// The name of the command, or of the response code.
     pub name: Option<String>,
     /// What had to be assumed, in words.
-    pub assumed: Option<&'static str>,
+    pub assumed: Option<Cow<'static, str>>,
     /// Its parts in their order, or why it is refused.
     pub verdict: Result<Vec<Part>, Refusal>,
 }
@@ -63,14 +66,25 @@ pub fn look(bytes: &[u8], role: Role) -> Seen<'_> {
     match role {
         Role::Command => command(bytes),
         Role::Answer(Some(cc)) => answer(bytes, cc),
-        Role::Answer(None) => Seen { assumed: Some(NO_COMMAND), ..response(bytes) },
+        Role::Answer(None) => Seen { assumed: Some(NO_COMMAND.into()), ..response(bytes) },
         Role::Alone => {
             let seen = command(bytes);
             match seen.verdict {
-                Err(Refusal::InvalidCc { .. }) => Seen { assumed: Some(ALONE_RESPONSE), ..response(bytes) },
-                _ => Seen { assumed: Some(ALONE_COMMAND), ..seen },
+                Err(Refusal::InvalidCc { .. }) => Seen { assumed: Some(ALONE_RESPONSE.into()), ..response(bytes) },
+                _ => Seen { assumed: Some(alone_command(bytes)), ..seen },
             }
         }
+    }
+}
+
+/// Some codes are a command's and an error's: then the other reading is named.
+fn alone_command(bytes: &[u8]) -> Cow<'static, str> {
+    // which command an error answers makes no difference
+    match TpmResponse::cast(bytes).and_then(|response| response.parts(TpmCc::Startup)) {
+        Ok(ResponseParts { rc, .. }) if rc != TpmRc::SUCCESS => {
+            format!("{ALONE_COMMAND}; as an answer (--answers-to) it would be the error {rc}").into()
+        }
+        _ => ALONE_COMMAND.into(),
     }
 }
 

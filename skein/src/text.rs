@@ -11,7 +11,7 @@ const ROW: usize = 32;
 
 pub fn show(place: Place, seen: &Seen, out: &mut String) -> fmt::Result {
     title(place, seen, out)?;
-    if let Some(assumed) = seen.assumed {
+    if let Some(assumed) = &seen.assumed {
         writeln!(out, "  assumed: {assumed}")?;
     }
     match &seen.verdict {
