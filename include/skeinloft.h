@@ -221,9 +221,9 @@ uint32_t skein_command_write(uint16_t tag, uint32_t cc, const uint8_t *handles, 
                              const uint8_t *lent, size_t lent_len, const uint8_t *parameters, size_t parameters_len,
                              uint8_t *room, size_t room_len, uint64_t out[8]);
 
-/* The same with the sessions in an array of `count`. */
+/* The same with the sessions in an array of `count` records. */
 uint32_t skein_command_write_array(uint16_t tag, uint32_t cc, const uint8_t *handles, size_t handles_len,
-                                   const struct skein_session *sessions, size_t count, const uint8_t *lent, size_t lent_len,
+                                   const struct skein_session *records, size_t count, const uint8_t *lent, size_t lent_len,
                                    const uint8_t *parameters, size_t parameters_len, uint8_t *room, size_t room_len,
                                    uint64_t out[8]);
 
@@ -261,9 +261,9 @@ uint32_t skein_response_write(uint32_t rc, uint32_t cc, const uint8_t *handles, 
                               const uint8_t *lent, size_t lent_len, const uint8_t *parameters, size_t parameters_len,
                               uint8_t *room, size_t room_len, uint64_t out[8]);
 
-/* The same with the sessions in an array of `count`. */
+/* The same with the sessions in an array of `count` records. */
 uint32_t skein_response_write_array(uint32_t rc, uint32_t cc, const uint8_t *handles, size_t handles_len,
-                                    const struct skein_session *sessions, size_t count, const uint8_t *lent, size_t lent_len,
+                                    const struct skein_session *records, size_t count, const uint8_t *lent, size_t lent_len,
                                     const uint8_t *parameters, size_t parameters_len, uint8_t *room, size_t room_len,
                                     uint64_t out[8]);
 

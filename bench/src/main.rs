@@ -8,7 +8,7 @@
 
 // no row measures every call
 #[allow(dead_code)]
-#[path = "../../compare/src/calls.rs"]
+#[path = "../../bindings/rust/src/calls.rs"]
 mod calls;
 mod frame;
 mod frames;
@@ -18,6 +18,8 @@ mod oracle;
 #[allow(dead_code)]
 #[path = "../../compare/src/random.rs"]
 mod random;
+#[path = "../../compare/src/report.rs"]
+mod report;
 mod rows;
 mod time;
 mod tss;

@@ -4,7 +4,8 @@
 //! a number that should have been left alone, or a byte beside a slice, counts as much as the answer itself. The room
 //! is kept from call to call: once it is large enough, nothing is allocated.
 
-use crate::calls::{self, Frame, OFFSET, Out, Parts, Session, Sessions};
+use crate::calls::{Frame, OFFSET, Out, Parts, Session, Sessions};
+use crate::report::report;
 use std::fmt;
 use std::ops::Range;
 
@@ -65,7 +66,7 @@ impl Said {
 
     /// A judge's refusal, with its fields in document 01's order.
     pub fn refuses(&mut self, number: u32, fields: &[u64]) {
-        self.number = calls::report(number, fields.iter().copied(), &mut self.out);
+        self.number = report(number, fields.iter().copied(), &mut self.out);
     }
 
     pub fn number(&self) -> u32 {

@@ -14,6 +14,9 @@
 #![cfg_attr(not(oracle), allow(dead_code))]
 
 mod answer;
+// declared once for all that call the library, also for calls that are not compared
+#[allow(dead_code)]
+#[path = "../../bindings/rust/src/calls.rs"]
 mod calls;
 mod edges;
 mod field;
@@ -24,6 +27,7 @@ mod judge;
 mod oracle;
 mod random;
 mod rc;
+mod report;
 mod shown;
 mod shrink;
 mod traffic;

@@ -1,7 +1,8 @@
 //! The crate tpm2-protocol under the convention of `calls`: the number comes out, the array takes the rest. What the
 //! crate answers and refuses is turned into document 01's numbers here alone, for every suite and for the benchmark.
 
-use crate::calls::{self, Out};
+use crate::calls::Out;
+use crate::report::report;
 use tpm2_protocol::basic::{Tpm2b, TpmBuffer};
 use tpm2_protocol::data::{TpmRc, TpmRcBase, TpmRcFmt1, TpmRcIndex};
 use tpm2_protocol::{TpmError, TpmMarshal, TpmResult, TpmSized, TpmUnmarshal, TpmWriter};
@@ -37,7 +38,7 @@ pub fn tell<T, const N: usize>(said: TpmResult<T>, values: impl FnOnce(T) -> [u6
 }
 
 pub fn put<const N: usize>(number: u32, values: [u64; N], out: &mut Out) -> u32 {
-    calls::report(number, values, out)
+    report(number, values, out)
 }
 
 pub fn wide<const N: usize>(counts: [usize; N]) -> [u64; N] {

@@ -8,7 +8,8 @@ mod parts;
 pub use parts::{command_parts, command_validate, response_parts, response_validate};
 
 use super::known::{self, Row};
-use crate::calls::{self, Out};
+use crate::calls::Out;
+use crate::report::report;
 
 /// A refusal: its number and its fields, of which 1 and 6 have three and the others two.
 struct Refusal(u32, [usize; 3]);
@@ -33,7 +34,7 @@ fn tell<T, const N: usize>(read: Read<T>, values: impl FnOnce(T) -> [usize; N], 
 }
 
 fn put(number: u32, values: &[usize], out: &mut Out) -> u32 {
-    calls::report(number, values.iter().map(|&value| value as u64), out)
+    report(number, values.iter().map(|&value| value as u64), out)
 }
 
 const HEADER: usize = 10;

@@ -1,8 +1,8 @@
 //! Where the calls are made: one case that is changed in place, and a tally a writer. A call with few sessions is made a second
 //! time with an array of records.
 
-use super::{Kind, Write};
-use crate::calls::{MOST, Sessions};
+use super::{Kind, MOST, Write};
+use crate::calls::Sessions;
 use crate::judge::Tally;
 
 pub struct Desk {

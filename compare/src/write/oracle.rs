@@ -1,7 +1,8 @@
 //! The crate's writers under the convention of `calls`. There is none where the crate cannot be asked: a tag, a code or a
 //! session that its types cannot hold, or handle bytes that are not the row's.
 
-use crate::calls::{Handed, MOST, Out, Session};
+use super::MOST;
+use crate::calls::{Handed, Out, Session};
 use crate::frame;
 use crate::oracle::tell;
 use tpm2_protocol::basic::{TpmBuffer, TpmHandle};

@@ -1,7 +1,8 @@
 //! Document 01's order of checks from "Command writer" on, written out. It has an answer for every input.
 
-use crate::calls::{self, Field, Handed, Out, Session};
+use crate::calls::{Field, Handed, Out, Session};
 use crate::frame::known::{self, Row};
+use crate::report::report;
 
 /// A refusal: its number and its fields, of which 1, 6 and 9 have three and the others two.
 struct Refusal(u32, [u64; 3]);
@@ -124,10 +125,10 @@ fn fitting(total: usize, room: usize) -> Judged<usize> {
 /// The total that was written, or the refusal with its fields.
 fn tell(written: Judged<usize>, out: &mut Out) -> u32 {
     match written {
-        Ok(total) => calls::report(0, [total as u64], out),
+        Ok(total) => report(0, [total as u64], out),
         Err(Refusal(number, fields)) => {
             let count = if matches!(number, 1 | 6 | 9) { 3 } else { 2 };
-            calls::report(number, fields.into_iter().take(count), out)
+            report(number, fields.into_iter().take(count), out)
         }
     }
 }

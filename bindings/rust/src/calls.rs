@@ -1,22 +1,15 @@
-//! The calls of the proved library, as `crates/capi` exports them: the only unsafe code of the driver.
+//! The calls of the proved library, as `include/skeinloft.h` declares them: the only unsafe code.
 //!
-//! One convention for all, as include/skeinloft.h tells it: numbers go in first, then bytes that are read, then bytes that
-//! are written, last the lent array; the refusal's number comes out (0: an answer). Bytes in an array go in without their
-//! length. All parts of a frame come by value, with the number before them, and the writers take the sessions in the record
-//! that is among them.
+//! One form for all: numbers, bytes that are read, bytes that are written, and last the lent array of eight numbers. The
+//! refusal's number comes back (0: an answer). An answer's numbers go to the places 0 to 3 of the array, a refusal's fields
+//! to the places from 4 on. All parts of a frame come by value, with the number before them, and the writers take the
+//! sessions in the record that is among them.
 
-/// The lent array: an answer's numbers from its first place on, a refusal's fields from `OFFSET` on.
+/// The lent array.
 pub type Out = [u64; 8];
 
-/// The place of a refusal's offset.
+/// The place of a refusal's first field in the array; the others follow it.
 pub const OFFSET: usize = 4;
-
-/// Puts what a judge says where a call would put it, and hands the number on.
-pub fn report(number: u32, values: impl IntoIterator<Item = u64>, out: &mut Out) -> u32 {
-    let from = if number == 0 { 0 } else { OFFSET };
-    out[from..].iter_mut().zip(values).for_each(|(place, value)| *place = value);
-    number
-}
 
 /// A part of a frame, by its start and its end.
 #[repr(C)]
@@ -26,7 +19,7 @@ pub struct Span {
     pub to: usize,
 }
 
-/// A nonce or an HMAC, by its place and its length.
+/// A nonce or an HMAC, by its place and its size.
 #[repr(C)]
 #[derive(Clone, Copy, Debug, Default, PartialEq, Eq)]
 pub struct Field {
@@ -72,14 +65,22 @@ pub struct Parts {
     pub frame: Frame,
 }
 
-/// What a writer takes beside the tag or the code: handle bytes, sessions, the bytes that their places point into, and
-/// parameter bytes.
+/// What a writer takes beside the tag or the code: handle bytes, sessions in a record or in a slice, the bytes that their
+/// places point into, and parameter bytes.
 #[derive(Clone, Copy)]
-pub struct Handed<'a> {
+pub struct Handed<'a, S = Sessions> {
     pub handles: &'a [u8],
-    pub sessions: Sessions,
+    pub sessions: S,
     pub lent: &'a [u8],
     pub parameters: &'a [u8],
+}
+
+impl<'a> Handed<'a> {
+    /// The same with the first of these records, as many as the count says, in place of the record by value.
+    pub fn over(self, records: &'a [Session]) -> Handed<'a, &'a [Session]> {
+        let Self { handles, sessions, lent, parameters } = self;
+        Handed { handles, sessions: &records[..sessions.count], lent, parameters }
+    }
 }
 
 /// A slice as C takes it: where it starts, and its length.
@@ -116,8 +117,8 @@ macro_rules! calls {
                 ) -> u32;
             }
             $(let ($s, len) = $s.lent();)?
-            // SAFETY: the types are those that crates/capi declares; start and length are those of one slice, which is
-            // borrowed for the call, as is every array.
+            // SAFETY: the types are those that the header declares; start and length are those of one slice, which is
+            // borrowed for the call, as is every array; what is borrowed to be written to overlaps nothing.
             unsafe { call($($before,)* $($s, len,)? $($after,)* out) }
         }
     )*};
@@ -191,17 +192,20 @@ parts! {
     response_parts = skein_response_parts(cc: u32);
 }
 
-/// Makes a safe function of a writer, which takes a number and the command's code before what it is handed.
+/// Makes a safe function of a writer, which takes a number and the command's code before what it is handed; behind `as` is
+/// how C takes the sessions.
 macro_rules! writers {
-    ($($name:ident = $call:ident($number:ident: $n:ty);)*) => {$(
-        pub fn $name($number: $n, cc: u32, given: Handed, room: &mut [u8], out: &mut Out) -> u32 {
+    ($($name:ident = $call:ident(
+        $number:ident: $n:ty, $sessions:ident: $s:ty as $($passed:ident: $p:ty = $value:expr),+
+    );)*) => {$(
+        pub fn $name($number: $n, cc: u32, given: Handed<$s>, room: &mut [u8], out: &mut Out) -> u32 {
             unsafe extern "C" {
                 fn $call(
                     $number: $n,
                     cc: u32,
                     handles: *const u8,
                     handles_len: usize,
-                    sessions: Sessions,
+                    $($passed: $p,)+
                     lent: *const u8,
                     lent_len: usize,
                     parameters: *const u8,
@@ -211,22 +215,29 @@ macro_rules! writers {
                     out: &mut Out,
                 ) -> u32;
             }
-            let Handed { handles, sessions, lent, parameters } = given;
+            let Handed { handles, sessions: $sessions, lent, parameters } = given;
             let ((handles, h), (lent, l), (parameters, p)) = (handles.lent(), lent.lent(), parameters.lent());
             let (room, r) = room.lent();
-            // SAFETY: as above; the room is borrowed apart from all else.
-            unsafe { $call($number, cc, handles, h, sessions, lent, l, parameters, p, room, r, out) }
+            // SAFETY: as above.
+            unsafe { $call($number, cc, handles, h, $($value,)+ lent, l, parameters, p, room, r, out) }
         }
     )*};
 }
 
 writers! {
-    command_write = skein_command_write(tag: u16);
-    response_write = skein_response_write(rc: u32);
+    command_write = skein_command_write(tag: u16, three: Sessions as record: Sessions = three);
+    response_write = skein_response_write(rc: u32, three: Sessions as record: Sessions = three);
+    command_write_array = skein_command_write_array(
+        tag: u16, all: &[Session] as records: *const Session = all.as_ptr(), count: usize = all.len()
+    );
+    response_write_array = skein_response_write_array(
+        rc: u32, all: &[Session] as records: *const Session = all.as_ptr(), count: usize = all.len()
+    );
 }
 
 /// The data of a fixed buffer, an array as long as the capacity, and the calls of that capacity.
 pub trait Data: Sized {
+    #[allow(clippy::new_ret_no_self)]
     fn new(data: &mut Self, out: &mut Out) -> u32;
     fn push(byte: u8, size: u16, data: &mut Self, out: &mut Out) -> u32;
     fn extend(s: &[u8], size: u16, data: &mut Self, out: &mut Out) -> u32;

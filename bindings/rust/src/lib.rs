@@ -1,0 +1,77 @@
+//! TPM 2.0 command and response frames: read, checked and written by a proved library.
+//!
+//! Every answer comes from Skeinloft, which is written in Rattle: each of its functions is proved to give the answer that
+//! its definition says, for every input, and to stay inside the bytes that it is given. This crate lends it slices and gives
+//! back slices. A bad frame gets one [`Refusal`], with a number, a name and fields; nothing is changed by a refused call.
+//!
+//! The crate has no dependency, allocates nothing and needs no `std`; `unsafe` is in one file, which declares the calls.
+//! The names are those of tpm2-protocol where it has them. Link it with the library that `rt staticlib capi` writes: where
+//! that is not in `target/staticlib` of the repository, `SKEINLOFT_LIB_DIR` names its folder.
+//!
+//! # Reading
+//!
+//! ```
+//! use skeinloft::{Refusal, TpmCc, TpmCommand, TpmResponse};
+//!
+//! let command = TpmCommand::cast(&[0x80, 0x01, 0, 0, 0, 12, 0, 0, 0x01, 0x7B, 0, 2])?;
+//! let cc = command.parts()?.cc;
+//! assert_eq!(cc, TpmCc::GetRandom);
+//!
+//! // a response is judged for the command that it answers
+//! let response = TpmResponse::cast(&[0x80, 0x01, 0, 0, 0, 14, 0, 0, 0, 0, 0, 2, 0xAA, 0xBB])?;
+//! assert_eq!(response.parts(cc)?.parameters, [0, 2, 0xAA, 0xBB]);
+//! # Ok::<(), Refusal>(())
+//! ```
+//!
+//! # Writing
+//!
+//! ```
+//! use skeinloft::{CommandParts, Refusal, Sessions, TpmCc, TpmSt, TpmsAuth};
+//!
+//! let password = TpmsAuth { session_handle: 0x4000_0009, hmac: b"secret", ..TpmsAuth::default() };
+//! let mut scratch = [0; 64];
+//! let unseal = CommandParts {
+//!     tag: TpmSt::Sessions,
+//!     cc: TpmCc::Unseal,
+//!     handles: &[0x80, 0, 0, 0],
+//!     sessions: Sessions::new(&[password], &mut scratch)?,
+//!     parameters: &[],
+//! };
+//! let mut room = [0; 4096];
+//! let len = unseal.marshal(&mut room)?;
+//! assert_eq!(room[..6], [0x80, 0x02, 0, 0, 0, 33]);
+//! assert_eq!(len, 33);
+//! # Ok::<(), Refusal>(())
+//! ```
+
+#![no_std]
+#![deny(unsafe_code)]
+#![warn(missing_docs)]
+
+mod base;
+// each call stands there once, also those that this crate does not make
+#[allow(dead_code, unsafe_code)]
+mod calls;
+mod cc;
+mod command;
+mod names;
+mod rc;
+mod refusal;
+mod response;
+mod rh;
+mod session;
+mod st;
+mod tpm2b;
+mod view;
+
+pub use base::TpmRcBase;
+pub use cc::TpmCc;
+pub use command::{CommandParts, TpmCommand};
+pub use rc::{TpmRc, TpmRcIndex};
+pub use refusal::Refusal;
+pub use response::{ResponseParts, TpmResponse};
+pub use rh::TpmRh;
+pub use session::{Sessions, TpmaSession, TpmsAuth};
+pub use st::TpmSt;
+pub use tpm2b::Tpm2b;
+pub use view::Areas;

@@ -1,0 +1,239 @@
+//! Responses.
+
+use crate::calls;
+use crate::cc::TpmCc;
+use crate::rc::TpmRc;
+use crate::refusal::Refusal;
+use crate::session::Sessions;
+use crate::st::TpmSt;
+use crate::view::{Areas, ask, ask_parts, ask_split, ask_tag, part};
+
+/// A response frame, borrowed: bytes that [`cast`](Self::cast) let through.
+///
+/// What is behind its header depends on the command that it answers, so the calls that go further take that command's code.
+///
+/// ```
+/// use skeinloft::{TpmCc, TpmRc, TpmResponse};
+///
+/// let refused = TpmResponse::cast(&[0x80, 0x01, 0, 0, 0, 10, 0, 0, 0x01, 0x01])?;
+/// refused.validate(TpmCc::Unseal)?;
+/// assert_eq!(refused.rc()?.to_string(), "TPM_RC_FAILURE");
+/// # Ok::<(), skeinloft::Refusal>(())
+/// ```
+#[derive(Clone, Copy, Debug, PartialEq, Eq, Hash)]
+pub struct TpmResponse<'a>(&'a [u8]);
+
+impl<'a> TpmResponse<'a> {
+    /// Checks the header.
+    ///
+    /// # Errors
+    ///
+    /// The first of: bytes that are not as many as the size field says, a tag that is neither of the two, a response code
+    /// that is none.
+    ///
+    /// ```
+    /// use skeinloft::{Refusal, TpmResponse};
+    ///
+    /// let refusal = TpmResponse::cast(&[0x80, 0x01, 0, 0, 0, 10, 0, 0, 0, 0xC4]).unwrap_err();
+    /// assert_eq!(refusal, Refusal::InvalidRc { offset: 6, value: 0xC4 });
+    /// ```
+    pub fn cast(bytes: &'a [u8]) -> Result<Self, Refusal> {
+        ask(|out| calls::response_cast(bytes, out))?;
+        Ok(Self(bytes))
+    }
+
+    /// The same of a response at the start of the bytes; what is behind it comes too.
+    ///
+    /// # Errors
+    ///
+    /// As [`cast`](Self::cast), but for bytes behind the response.
+    ///
+    /// ```
+    /// use skeinloft::TpmResponse;
+    ///
+    /// let (response, behind) = TpmResponse::cast_prefix(&[0x80, 0x01, 0, 0, 0, 10, 0, 0, 0, 0, 0x80])?;
+    /// assert_eq!((response.body(), behind), (&[][..], &[0x80][..]));
+    /// # Ok::<(), skeinloft::Refusal>(())
+    /// ```
+    pub fn cast_prefix(bytes: &'a [u8]) -> Result<(Self, &'a [u8]), Refusal> {
+        ask_split(bytes, calls::response_cast_prefix).map(|(frame, tail)| (Self(frame), tail))
+    }
+
+    /// The bytes of the whole frame.
+    ///
+    /// ```
+    /// let bytes = [0x80, 0x01, 0, 0, 0, 10, 0, 0, 0, 0];
+    /// assert_eq!(skeinloft::TpmResponse::cast(&bytes)?.as_bytes(), bytes);
+    /// # Ok::<(), skeinloft::Refusal>(())
+    /// ```
+    #[must_use]
+    pub const fn as_bytes(&self) -> &'a [u8] {
+        self.0
+    }
+
+    /// The tag.
+    ///
+    /// # Errors
+    ///
+    /// None for a frame that was cast.
+    ///
+    /// ```
+    /// use skeinloft::{TpmResponse, TpmSt};
+    ///
+    /// let response = TpmResponse::cast(&[0x80, 0x02, 0, 0, 0, 10, 0, 0, 0, 0])?;
+    /// assert_eq!(response.tag()?, TpmSt::Sessions);
+    /// # Ok::<(), skeinloft::Refusal>(())
+    /// ```
+    pub fn tag(&self) -> Result<TpmSt, Refusal> {
+        ask_tag(self.0)
+    }
+
+    /// The response code.
+    ///
+    /// # Errors
+    ///
+    /// None for a frame that was cast.
+    ///
+    /// ```
+    /// use skeinloft::{TpmRc, TpmResponse};
+    ///
+    /// assert_eq!(TpmResponse::cast(&[0x80, 0x01, 0, 0, 0, 10, 0, 0, 0, 0])?.rc()?, TpmRc::SUCCESS);
+    /// # Ok::<(), skeinloft::Refusal>(())
+    /// ```
+    pub fn rc(&self) -> Result<TpmRc, Refusal> {
+        let [rc, ..] = ask(|out| calls::response_rc(self.0, out))?;
+        TpmRc::try_from(rc as u32)
+    }
+
+    /// All bytes behind the header.
+    ///
+    /// ```
+    /// let response = skeinloft::TpmResponse::cast(&[0x80, 0x01, 0, 0, 0, 12, 0, 0, 0, 0, 7, 8])?;
+    /// assert_eq!(response.body(), [7, 8]);
+    /// # Ok::<(), skeinloft::Refusal>(())
+    /// ```
+    #[must_use]
+    pub fn body(&self) -> &'a [u8] {
+        // the cast saw ten bytes
+        &self.0[10..]
+    }
+
+    /// Checks the response to a command whole.
+    ///
+    /// # Errors
+    ///
+    /// The first of: a command code that is none; of an error, the sessions tag or bytes behind the header; of success,
+    /// handles or parameters that are cut short, a fourth entry, an entry that is cut short.
+    ///
+    /// ```
+    /// use skeinloft::{Refusal, TpmCc, TpmResponse};
+    ///
+    /// // the response to TPM2_Load has a handle
+    /// let response = TpmResponse::cast(&[0x80, 0x01, 0, 0, 0, 10, 0, 0, 0, 0])?;
+    /// let refusal = response.validate(TpmCc::Load).unwrap_err();
+    /// assert_eq!(refusal, Refusal::UnexpectedEnd { offset: 10, needed: 4, available: 0 });
+    /// # Ok::<(), Refusal>(())
+    /// ```
+    pub fn validate(&self, cc: TpmCc) -> Result<(), Refusal> {
+        ask(|out| calls::response_validate(cc.0, self.0, out)).map(|_| ())
+    }
+
+    /// Checks the response to a command whole, and gives all its parts.
+    ///
+    /// # Errors
+    ///
+    /// As [`validate`](Self::validate).
+    ///
+    /// ```
+    /// use skeinloft::{TpmCc, TpmResponse};
+    ///
+    /// let response = TpmResponse::cast(&[0x80, 0x01, 0, 0, 0, 14, 0, 0, 0, 0, 0, 2, 0xAA, 0xBB])?;
+    /// assert_eq!(response.parts(TpmCc::GetRandom)?.parameters, [0, 2, 0xAA, 0xBB]);
+    /// # Ok::<(), skeinloft::Refusal>(())
+    /// ```
+    pub fn parts(&self, cc: TpmCc) -> Result<ResponseParts<'a>, Refusal> {
+        let frame = ask_parts(|out| calls::response_parts(cc.0, self.0, out))?;
+        Ok(ResponseParts {
+            rc: TpmRc::try_from(frame.code)?,
+            handles: part(self.0, frame.handles),
+            sessions: Sessions { record: frame.sessions, lent: self.0 },
+            parameters: part(self.0, frame.parameters),
+        })
+    }
+
+    /// Checks the response to a command whole, and tells where its areas are.
+    ///
+    /// # Errors
+    ///
+    /// As [`validate`](Self::validate).
+    ///
+    /// ```
+    /// use skeinloft::{TpmCc, TpmResponse};
+    ///
+    /// let response = TpmResponse::cast(&[0x80, 0x01, 0, 0, 0, 14, 0, 0, 0, 0, 0x80, 0, 0, 0])?;
+    /// let areas = response.areas(TpmCc::ContextLoad)?;
+    /// assert_eq!((areas.handles, areas.parameters), (10..14, 14..14));
+    /// # Ok::<(), skeinloft::Refusal>(())
+    /// ```
+    pub fn areas(&self, cc: TpmCc) -> Result<Areas, Refusal> {
+        ask_parts(|out| calls::response_parts(cc.0, self.0, out)).map(Areas::from)
+    }
+}
+
+impl AsRef<[u8]> for TpmResponse<'_> {
+    fn as_ref(&self) -> &[u8] {
+        self.0
+    }
+}
+
+/// The parts of a response: those that were read, or those to be written.
+///
+/// ```
+/// use skeinloft::{ResponseParts, Sessions, TpmCc, TpmRc, TpmResponse};
+///
+/// let random =
+///     ResponseParts { rc: TpmRc::SUCCESS, handles: &[], sessions: Sessions::default(), parameters: &[0, 1, 0x2A] };
+/// let mut room = [0; 64];
+/// let len = random.marshal(TpmCc::GetRandom, &mut room)?;
+/// assert_eq!(TpmResponse::cast(&room[..len])?.parts(TpmCc::GetRandom)?, random);
+/// # Ok::<(), skeinloft::Refusal>(())
+/// ```
+#[derive(Clone, Copy, Debug, PartialEq, Eq)]
+pub struct ResponseParts<'a> {
+    /// The response code.
+    pub rc: TpmRc,
+    /// The handles, four bytes each.
+    pub handles: &'a [u8],
+    /// The sessions. They choose the tag.
+    pub sessions: Sessions<'a>,
+    /// The parameters.
+    pub parameters: &'a [u8],
+}
+
+impl ResponseParts<'_> {
+    /// Writes the response to a command to the start of the room, and tells how many bytes it takes. The room behind them
+    /// stays as it was. Of a code that is not success nothing else is written.
+    ///
+    /// # Errors
+    ///
+    /// The first of: more than three sessions, a command code that is none, a response code that does not read, sessions with
+    /// a code that is not success, handles that are not the response's in number, more bytes than a frame's size can say,
+    /// room that is too short. The room is then as it was.
+    ///
+    /// ```
+    /// use skeinloft::{TpmCc, TpmResponse};
+    ///
+    /// let bytes = [0x80, 0x01, 0, 0, 0, 10, 0, 0, 0x01, 0x01];
+    /// let parts = TpmResponse::cast(&bytes)?.parts(TpmCc::Unseal)?;
+    /// let mut room = [0; 10];
+    /// assert_eq!(parts.marshal(TpmCc::Unseal, &mut room)?, 10);
+    /// assert_eq!(room, bytes);
+    /// # Ok::<(), skeinloft::Refusal>(())
+    /// ```
+    #[doc(alias = "tpm_marshal_response")]
+    pub fn marshal(&self, cc: TpmCc, room: &mut [u8]) -> Result<usize, Refusal> {
+        let handed = self.sessions.handed(self.handles, self.parameters);
+        let [len, ..] = ask(|out| calls::response_write(self.rc.value(), cc.0, handed, room, out))?;
+        Ok(len as usize)
+    }
+}

@@ -1,0 +1,119 @@
+//! Real frames, a command and its answer a line: what passes is written again from its parts.
+
+use skeinloft::{Refusal, ResponseParts, Sessions, TpmCc, TpmCommand, TpmResponse, TpmSt, TpmsAuth};
+
+const PAIRS: &str = include_str!("../../../compare/src/frame/real.txt");
+
+fn unhex(text: &str) -> Vec<u8> {
+    let digits = text.as_bytes().chunks(2).map(|pair| std::str::from_utf8(pair).expect("digits"));
+    digits.map(|pair| u8::from_str_radix(pair, 16).expect("hexadecimal")).collect()
+}
+
+fn pairs() -> Vec<(Vec<u8>, Vec<u8>)> {
+    let words = PAIRS.lines().map(|line| line.split_once(' ').expect("two frames"));
+    words.map(|(command, answer)| (unhex(command), unhex(answer))).collect()
+}
+
+/// The sessions again, from copies of their entries.
+fn copied<'a>(sessions: Sessions, room: &'a mut [u8]) -> Sessions<'a> {
+    let entries: Vec<TpmsAuth> = sessions.iter().collect();
+    Sessions::new(&entries, room).expect("there is room")
+}
+
+/// What comes of writing: the bytes.
+fn written(write: impl FnOnce(&mut [u8]) -> Result<usize, Refusal>) -> Result<Vec<u8>, Refusal> {
+    let mut room = [0xFF; 8192];
+    let len = write(&mut room)?;
+    assert!(room[len..].iter().all(|&byte| byte == 0xFF), "the room behind the frame stays as it was");
+    Ok(room[..len].to_vec())
+}
+
+#[test]
+fn commands_are_written_as_they_were_read() {
+    let (mut same, mut bare) = (0, 0);
+    for (bytes, _) in pairs() {
+        let Ok(mut parts) = TpmCommand::cast(&bytes).and_then(|command| command.parts()) else { continue };
+        let mut room = [0; 8192];
+        parts.sessions = copied(parts.sessions, &mut room);
+        match written(|room| parts.marshal(room)) {
+            Ok(again) => {
+                assert_eq!(again, bytes);
+                same += 1;
+            }
+            Err(refusal) => {
+                assert!(parts.sessions.is_empty());
+                assert_eq!(refusal, Refusal::InvalidTag { offset: 0, value: TpmSt::Sessions.value().into() });
+                bare += 1;
+            }
+        }
+    }
+    println!("{same} commands come out the same, {bare} are under the sessions tag without a session");
+    assert!(same > 100);
+}
+
+#[test]
+fn responses_are_written_as_they_were_read() {
+    let mut same = 0;
+    for (command, bytes) in pairs() {
+        let Ok(cc) = TpmCommand::cast(&command).and_then(|command| command.cc()) else { continue };
+        let Ok(parts) = TpmResponse::cast(&bytes).and_then(|response| response.parts(cc)) else { continue };
+        let mut room = [0; 8192];
+        let again = ResponseParts { sessions: copied(parts.sessions, &mut room), ..parts };
+        assert_eq!(again, parts);
+        assert_eq!(written(|room| again.marshal(cc, room)).expect("it was read"), bytes);
+        same += 1;
+    }
+    println!("{same} responses come out the same");
+    assert!(same > 100);
+}
+
+#[test]
+fn areas_and_parts_tell_the_same() {
+    for (bytes, answer) in pairs() {
+        let Ok(command) = TpmCommand::cast(&bytes) else { continue };
+        let Ok(areas) = command.areas() else { continue };
+        assert_eq!(command.validate(), Ok(()));
+        assert_eq!(command.handles(), Ok(&bytes[areas.handles.clone()]));
+        assert_eq!(command.auth_area(), Ok(&bytes[areas.auth_area]));
+        assert_eq!(command.parameters(), Ok(&bytes[areas.parameters]));
+        let parts = command.parts().expect("it passes");
+        assert_eq!((Ok(parts.tag), Ok(parts.cc), parts.handles), (command.tag(), command.cc(), &bytes[areas.handles]));
+
+        let Ok(response) = TpmResponse::cast(&answer) else { continue };
+        let (areas, parts) = (response.areas(parts.cc), response.parts(parts.cc));
+        assert_eq!(parts.map(|parts| parts.parameters), areas.map(|areas| &answer[areas.parameters]));
+    }
+}
+
+#[test]
+fn a_frame_cut_anywhere_is_refused() {
+    for (bytes, answer) in pairs() {
+        let cc = TpmCc(u32::from_be_bytes(bytes[6..10].try_into().expect("four bytes")));
+        for len in 0..bytes.len() {
+            assert!(TpmCommand::cast(&bytes[..len]).is_err());
+        }
+        for len in 0..answer.len() {
+            assert!(TpmResponse::cast(&answer[..len]).and_then(|response| response.validate(cc)).is_err());
+        }
+    }
+}
+
+#[test]
+fn a_cast_does_not_walk() {
+    // an authorization area of five bytes, in which the nonce has half a size
+    let bytes = [0x80, 0x02, 0, 0, 0, 23, 0, 0, 1, 0x5E, 0x80, 0, 0, 0, 0, 0, 0, 5, 0x40, 0, 0, 9, 0];
+    let command = TpmCommand::cast(&bytes).expect("the areas are whole");
+    let refusal = Refusal::UnexpectedEnd { offset: 22, needed: 2, available: 1 };
+    assert_eq!((command.validate(), command.parts(), command.areas()), (Err(refusal), Err(refusal), Err(refusal)));
+}
+
+#[test]
+fn four_sessions_are_not_written() {
+    let read = [0x80, 0x01, 0, 0, 0, 14, 0, 0, 1, 0x5E, 0x80, 0, 0, 0];
+    let mut parts = TpmCommand::cast(&read).and_then(|command| command.parts()).expect("it passes");
+    let mut room = [0; 64];
+    parts.tag = TpmSt::Sessions;
+    parts.sessions = Sessions::new(&[TpmsAuth::default(); 4], &mut room).expect("there is room");
+    assert_eq!(parts.sessions.iter().count(), 3);
+    assert_eq!(parts.marshal(&mut [0; 64]), Err(Refusal::TooManyItems { offset: 0, limit: 3, actual: 4 }));
+}

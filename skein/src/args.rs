@@ -1,0 +1,130 @@
+//! The words of the command line.
+
+use skeinloft::TpmCc;
+use std::ffi::OsString;
+
+pub const USAGE: &str = "usage: skein inspect [--json] [--raw [--pairs]] [--answers-to COMMAND] [FILE]";
+
+pub const HELP: &str = "\
+usage: skein inspect [--json] [--raw [--pairs]] [--answers-to COMMAND] [FILE]
+       skein --help | --version
+
+Shows TPM 2.0 command and response frames, and why a bad one is refused.
+FILE, or standard input, has a frame a line in hexadecimal, or a command and
+its answer on a line with a space between them.
+
+A frame that stands alone is taken for a command where its code is a
+command's. Else it is taken for a response, of which the header alone is
+judged: what is behind it depends on the command that it answers.
+
+  --json                one object a frame
+  --raw                 FILE has raw bytes: frames end to end, cut by their
+                        size fields
+  --pairs               with --raw: commands and their answers in turn
+  --answers-to COMMAND  frames that stand alone are answers to this command,
+                        which is a name (TPM2_GetRandom, GetRandom) or a
+                        code (0x17B)
+
+The status is 0 where every frame passes, 1 where one is refused or a line
+has none, 2 where the words are wrong or FILE cannot be read.
+";
+
+/// What is asked for.
+#[derive(Debug, PartialEq, Eq)]
+pub enum Asked {
+    Help,
+    Version,
+    Inspect(Inspect),
+}
+
+#[derive(Debug, Default, PartialEq, Eq)]
+pub struct Inspect {
+    pub json: bool,
+    pub raw: bool,
+    pub pairs: bool,
+    pub answers_to: Option<TpmCc>,
+    /// None for standard input.
+    pub file: Option<OsString>,
+}
+
+/// Understands the words, or says what is wrong with them.
+pub fn understand(words: impl IntoIterator<Item = OsString>) -> Result<Asked, String> {
+    let mut words = words.into_iter();
+    match words.next().as_deref().and_then(|word| word.to_str()) {
+        Some("inspect") => {}
+        Some("--help" | "-h" | "help") => return Ok(Asked::Help),
+        Some("--version" | "-V") => return Ok(Asked::Version),
+        Some(other) => return Err(format!("there is no '{other}'")),
+        None => return Err("nothing is asked for".to_owned()),
+    }
+    let mut asked = Inspect::default();
+    while let Some(word) = words.next() {
+        match word.to_str() {
+            Some("--json") => asked.json = true,
+            Some("--raw") => asked.raw = true,
+            Some("--pairs") => asked.pairs = true,
+            Some("--answers-to") => asked.answers_to = Some(command(words.next())?),
+            Some("--help" | "-h") => return Ok(Asked::Help),
+            Some("-") => {}
+            Some(option) if option.starts_with('-') => return Err(format!("there is no option {option}")),
+            _ if asked.file.is_some() => return Err("there can be one FILE".to_owned()),
+            _ => asked.file = Some(word),
+        }
+    }
+    if asked.pairs && !asked.raw {
+        return Err("--pairs goes with --raw".to_owned());
+    }
+    if asked.pairs && asked.answers_to.is_some() {
+        return Err("--answers-to does not go with --pairs".to_owned());
+    }
+    Ok(Asked::Inspect(asked))
+}
+
+/// A command by its name, with one of the Library's prefixes or without, or by its code.
+fn command(word: Option<OsString>) -> Result<TpmCc, String> {
+    let word = word.ok_or("--answers-to names no COMMAND")?;
+    let word = word.to_string_lossy();
+    let bare =
+        |name: &str| ["TPM2_", "TPM_CC_"].iter().find_map(|&prefix| name.strip_prefix(prefix).map(str::to_owned));
+    let asked = bare(&word).unwrap_or_else(|| word.to_string());
+    let named = TpmCc::NAMED.iter().find(|(_, name)| bare(name).is_some_and(|name| name.eq_ignore_ascii_case(&asked)));
+    let code = || word.strip_prefix("0x").and_then(|digits| u32::from_str_radix(digits, 16).ok()).map(TpmCc);
+    named.map(|&(cc, _)| cc).or_else(code).ok_or_else(|| format!("there is no command '{word}'"))
+}
+
+#[cfg(test)]
+mod tests {
+    use super::{Asked, Inspect, understand};
+    use skeinloft::TpmCc;
+
+    fn of(words: &str) -> Result<Asked, String> {
+        understand(words.split_whitespace().map(Into::into))
+    }
+
+    #[test]
+    fn words_are_understood() {
+        let all = Inspect { raw: true, pairs: true, json: true, answers_to: None, file: Some("f".into()) };
+        assert_eq!(of("inspect --raw f --pairs --json"), Ok(Asked::Inspect(all)));
+        assert_eq!(of("inspect -"), Ok(Asked::Inspect(Inspect::default())));
+        for word in ["GetRandom", "getrandom", "TPM2_GetRandom", "TPM_CC_GetRandom", "0x17b"] {
+            let asked = Inspect { answers_to: Some(TpmCc::GetRandom), ..Inspect::default() };
+            assert_eq!(of(&format!("inspect --answers-to {word}")), Ok(Asked::Inspect(asked)));
+        }
+    }
+
+    #[test]
+    fn wrong_words_are_named() {
+        for words in [
+            "",
+            "show",
+            "inspect --colour",
+            "inspect a b",
+            "inspect --pairs",
+            "inspect --answers-to",
+            "inspect --answers-to Nothing",
+            "inspect --raw --pairs --answers-to Load",
+        ] {
+            assert!(of(words).is_err(), "{words}");
+        }
+    }
+}

@@ -1,0 +1,226 @@
+//! What a frame is: the judgement of the library, and the parts of a frame that passes, each with its place and its meaning.
+
+use crate::text::count;
+use skeinloft::{
+    Areas, Refusal, ResponseParts, Sessions, TpmCc, TpmCommand, TpmRc, TpmResponse, TpmRh, TpmSt, TpmsAuth,
+};
+use std::borrow::Cow;
+use std::ops::Range;
+
+/// What a frame is to be taken for.
+#[derive(Clone, Copy, Debug, PartialEq, Eq)]
+pub enum Role {
+    Command,
+    /// The answer to a command; none where that has no code.
+    Answer(Option<TpmCc>),
+    /// A frame of which nothing is known: a command where its code is one, else a response.
+    Alone,
+}
+
+/// A frame that was looked at.
+pub struct Seen<'a> {
+    pub bytes: &'a [u8],
+    pub kind: Kind,
+    /// The name of the command, or of the response code.
+    pub name: Option<String>,
+    /// What had to be assumed, in words.
+    pub assumed: Option<Cow<'static, str>>,
+    /// Its parts in their order, or why it is refused.
+    pub verdict: Result<Vec<Part>, Refusal>,
+}
+
+#[derive(Clone, Copy, Debug, PartialEq, Eq)]
+pub enum Kind {
+    Command,
+    /// A response, to the command of this code.
+    Answer(TpmCc),
+    /// A response to a command that is not known: its header alone is judged.
+    Response,
+}
+
+/// A part of a frame.
+pub struct Part {
+    pub name: &'static str,
+    pub at: Range<usize>,
+    /// What the bytes say, where that is more than themselves.
+    pub meaning: String,
+    pub inside: Inside,
+}
+
+/// What a part is made of.
+pub enum Inside {
+    Bytes,
+    /// Parts of one kind, which are counted from 1.
+    List(Vec<Part>),
+    /// Parts of different kinds.
+    Fields(Vec<Part>),
+}
+
+const ALONE_COMMAND: &str = "a command, since it stands alone";
+const ALONE_RESPONSE: &str = "a response, since it stands alone and its code is no command's; \
+                              its command is not known (--answers-to), so only its header is judged";
+const NO_COMMAND: &str = "a response to a command that is not known, since that has no code; only its header is judged";
+
+/// Looks at a frame.
+pub fn look(bytes: &[u8], role: Role) -> Seen<'_> {
+    match role {
+        Role::Command => command(bytes),
+        Role::Answer(Some(cc)) => answer(bytes, cc),
+        Role::Answer(None) => Seen { assumed: Some(NO_COMMAND.into()), ..response(bytes) },
+        Role::Alone => {
+            let seen = command(bytes);
+            match seen.verdict {
+                Err(Refusal::InvalidCc { .. }) => Seen { assumed: Some(ALONE_RESPONSE.into()), ..response(bytes) },
+                _ => Seen { assumed: Some(alone_command(bytes)), ..seen },
+            }
+        }
+    }
+}
+
+/// Some codes are a command's and an error's: then the other reading is named.
+fn alone_command(bytes: &[u8]) -> Cow<'static, str> {
+    // which command an error answers makes no difference
+    match TpmResponse::cast(bytes).and_then(|response| response.parts(TpmCc::Startup)) {
+        Ok(ResponseParts { rc, .. }) if rc != TpmRc::SUCCESS => {
+            format!("{ALONE_COMMAND}; as an answer (--answers-to) it would be the error {rc}").into()
+        }
+        _ => ALONE_COMMAND.into(),
+    }
+}
+
+/// The code field, where there is one.
+pub fn code(bytes: &[u8]) -> Option<u32> {
+    Some(u32::from_be_bytes(*bytes.get(6..)?.first_chunk()?))
+}
+
+fn command(bytes: &[u8]) -> Seen<'_> {
+    let name = code(bytes).and_then(|code| TpmCc(code).name()).map(str::to_owned);
+    Seen { bytes, kind: Kind::Command, name, assumed: None, verdict: command_parts(bytes) }
+}
+
+fn command_parts(bytes: &[u8]) -> Result<Vec<Part>, Refusal> {
+    let command = TpmCommand::cast(bytes)?;
+    let (all, areas) = (command.parts()?, command.areas()?);
+    let Areas { handles, auth_area, parameters, .. } = areas;
+    let mut parts = header(all.tag, bytes.len(), all.cc.to_string());
+    parts.push(handle_area(bytes, handles.clone()));
+    if all.tag == TpmSt::Sessions {
+        parts.push(size("authorization size", handles.end, auth_area.len()));
+        parts.push(authorization(bytes, auth_area, &all.sessions));
+    }
+    parts.push(plain("parameters", parameters));
+    Ok(parts)
+}
+
+/// The name of a response code that reads.
+fn rc_name(bytes: &[u8]) -> Option<String> {
+    TpmRc::try_from(code(bytes)?).ok().map(|rc| rc.to_string())
+}
+
+fn answer(bytes: &[u8], cc: TpmCc) -> Seen<'_> {
+    Seen { bytes, kind: Kind::Answer(cc), name: rc_name(bytes), assumed: None, verdict: answer_parts(bytes, cc) }
+}
+
+fn answer_parts(bytes: &[u8], cc: TpmCc) -> Result<Vec<Part>, Refusal> {
+    let response = TpmResponse::cast(bytes)?;
+    let (all, areas, tag) = (response.parts(cc)?, response.areas(cc)?, response.tag()?);
+    let Areas { handles, auth_area, parameters, .. } = areas;
+    let mut parts = header(tag, bytes.len(), all.rc.to_string());
+    if all.rc != TpmRc::SUCCESS {
+        return Ok(parts);
+    }
+    parts.push(handle_area(bytes, handles.clone()));
+    if tag == TpmSt::Sessions {
+        parts.push(size("parameter size", handles.end, parameters.len()));
+    }
+    parts.push(plain("parameters", parameters));
+    if tag == TpmSt::Sessions {
+        parts.push(authorization(bytes, auth_area, &all.sessions));
+    }
+    Ok(parts)
+}
+
+/// A response of which the header alone is judged.
+fn response(bytes: &[u8]) -> Seen<'_> {
+    let parts = || {
+        let response = TpmResponse::cast(bytes)?;
+        let mut parts = header(response.tag()?, bytes.len(), response.rc()?.to_string());
+        parts.push(plain("body", 10..bytes.len()));
+        Ok(parts)
+    };
+    Seen { bytes, kind: Kind::Response, name: rc_name(bytes), assumed: None, verdict: parts() }
+}
+
+fn header(tag: TpmSt, len: usize, code: String) -> Vec<Part> {
+    vec![says("tag", 0..2, tag.to_string()), size("size", 2, len), says("code", 6..10, code)]
+}
+
+fn plain(name: &'static str, at: Range<usize>) -> Part {
+    says(name, at, String::new())
+}
+
+fn says(name: &'static str, at: Range<usize>, meaning: String) -> Part {
+    Part { name, at, meaning, inside: Inside::Bytes }
+}
+
+/// A size of four bytes at a place.
+fn size(name: &'static str, at: usize, bytes: usize) -> Part {
+    says(name, at..at + 4, count(bytes, "byte"))
+}
+
+fn handle_area(bytes: &[u8], at: Range<usize>) -> Part {
+    let one = |from: usize| {
+        let handle = bytes[from..].first_chunk().map_or(0, |field| u32::from_be_bytes(*field));
+        says("handle", from..from + 4, handle_name(handle))
+    };
+    let inside = Inside::List(at.clone().step_by(4).map(one).collect());
+    Part { name: "handles", at, meaning: String::new(), inside }
+}
+
+/// The name of a permanent handle, and the kind of any other by its first byte (Part 2, TPM_HT).
+pub fn handle_name(handle: u32) -> String {
+    let kind = match handle >> 24 {
+        0x00 => return format!("PCR {handle}"),
+        0x01 => "NV index",
+        0x02 => "HMAC or loaded session",
+        0x03 => "policy or saved session",
+        0x40 => TpmRh(handle).name().unwrap_or("permanent handle"),
+        0x80 => "transient object",
+        0x81 => "persistent object",
+        0x90 => "attached component",
+        _ => "handle of no known kind",
+    };
+    kind.to_owned()
+}
+
+fn authorization(bytes: &[u8], at: Range<usize>, sessions: &Sessions) -> Part {
+    let mut from = at.start;
+    // an entry of a command starts with its handle, one of a response with the size of its nonce
+    let one = |entry| {
+        let part = session(bytes, from, &entry);
+        from = part.at.end;
+        part
+    };
+    let inside = Inside::List(sessions.iter().map(one).collect());
+    Part { name: "authorization", at, meaning: String::new(), inside }
+}
+
+fn session(bytes: &[u8], from: usize, entry: &TpmsAuth) -> Part {
+    let (nonce, hmac) = (place(bytes, entry.nonce), place(bytes, entry.hmac));
+    let mut fields = Vec::new();
+    // before the nonce is its size
+    if nonce.start > from + 2 {
+        fields.push(says("handle", from..from + 4, handle_name(entry.session_handle)));
+    }
+    let (attributes, end) = (nonce.end..nonce.end + 1, hmac.end);
+    fields.push(plain("nonce", nonce));
+    fields.push(says("attributes", attributes, entry.session_attributes.to_string()));
+    fields.push(plain("HMAC", hmac));
+    Part { name: "session", at: from..end, meaning: String::new(), inside: Inside::Fields(fields) }
+}
+
+/// Where a part of the bytes stands in them.
+fn place(bytes: &[u8], part: &[u8]) -> Range<usize> {
+    let from = part.as_ptr().addr() - bytes.as_ptr().addr();
+    from..from + part.len()
+}
