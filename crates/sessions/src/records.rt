@@ -3,6 +3,7 @@ ghost use mathlib.Core.Path.{_≡_};
 ghost use lib.ListN.{getD};
 ghost use Rattle.frame.specs.Walk.{byValue, none};
 use frame::session::Entries;
+use frame::session::Field;
 use frame::session::Session;
 
 // What stands for a record that is not there: zeros.
@@ -22,14 +23,32 @@ fn record_at(s: &[Session], place: usize) -> Session
     absent()
 }
 
+// The same record by its fields: a copy of the whole record, in the machine, also moves the padding between them, piece by piece.
+fn rebuilt(given: Session) -> Session
+    ensures { λ r. ⌜ r ≡ given ⌝ }
+{
+    Session {
+        handle: given.handle,
+        nonce: Field {
+            at: given.nonce.at,
+            size: given.nonce.size,
+        },
+        attributes: given.attributes,
+        hmac: Field {
+            at: given.hmac.at,
+            size: given.hmac.size,
+        },
+    }
+}
+
 fn gathered(count: usize, first: Session, second: Session, third: Session) -> Entries
     ensures { λ r. ⌜ r ≡ record { count = count; first = first; second = second; third = third } ⌝ }
 {
     Entries {
         count,
-        first,
-        second,
-        third,
+        first: rebuilt(first),
+        second: rebuilt(second),
+        third: rebuilt(third),
     }
 }
 
