@@ -22,12 +22,10 @@ use crate::answer::{Answer, Hex};
 use crate::calls::{self, Field, Handed, Out, Session, Sessions};
 use crate::judge::{Case, Judge, Tally};
 use crate::random::Random;
+use crate::report::MOST;
 use crate::shrink;
 use std::fmt;
 use std::sync::LazyLock;
-
-/// The most records that are handed over in an array: one more than the crate takes.
-const MOST: usize = 9;
 
 #[derive(Clone, Copy, Debug, PartialEq)]
 pub enum Kind {

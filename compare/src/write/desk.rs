@@ -1,9 +1,10 @@
 //! Where the calls are made: one case that is changed in place, and a tally a writer. A call with few sessions is made a second
 //! time with an array of records.
 
-use super::{Kind, MOST, Write};
+use super::{Kind, Write};
 use crate::calls::Sessions;
 use crate::judge::Tally;
+use crate::report::MOST;
 
 pub struct Desk {
     /// The next call.

@@ -1,10 +1,10 @@
 //! The crate's writers under the convention of `calls`. There is none where the crate cannot be asked: a tag, a code or a
 //! session that its types cannot hold, or handle bytes that are not the row's.
 
-use super::MOST;
 use crate::calls::{Handed, Out, Session};
 use crate::frame;
 use crate::oracle::tell;
+use crate::report::MOST;
 use tpm2_protocol::basic::{TpmBuffer, TpmHandle};
 use tpm2_protocol::data::{TpmCc, TpmRc, TpmRcBase, TpmSt, TpmaSession, TpmsAuthCommand, TpmsAuthResponse};
 use tpm2_protocol::frame::{TpmFrame, TpmMarshalBody, tpm_marshal_command, tpm_marshal_response};
