@@ -48,14 +48,16 @@ rust_program() { # SOURCE OUT [WORDS..]
 
 # ---- skein
 
-# Makes skein, and sets $skein to it.
+# Makes skein, where something of it has changed, and sets $skein to it.
 make_skein() {
     if [ -n "$cargo" ]; then
         run_cargo build "$root/skein" --release
         skein=$CARGO_TARGET_DIR/release/skein
-    else
+        return
+    fi
+    skein=$work/skein
+    if [ ! -f "$skein" ] || [ -n "$(find "$crate" "$root/skein" "$SKEINLOFT_LIB_DIR" -newer "$skein")" ]; then
         build_crate
-        skein=$work/skein
         rust_program "$root/skein/src/main.rs" "$skein"
     fi
 }
