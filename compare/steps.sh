@@ -1,18 +1,29 @@
 # shellcheck shell=sh
-# The steps that run and wrong-builds share with ../bench/run; each sources this file. Everything that they make is under
-# target/compare and target/bench.
+# The steps of every script that needs the proved library; each sources this file. A script makes what is its own in $work and
+# calls itself $me: by the name of its folder, or by its own where it stands at the top or in .ci.
 set -eu
 here=$(CDPATH='' cd -- "$(dirname -- "$0")" && pwd -P)
-root=$(dirname -- "$here")
+if [ -f "$here/crates.txt" ]; then root=$here; else root=$(dirname -- "$here"); fi
+case $here in
+"$root" | "$root/.ci") me=$(basename -- "$0") ;;
+*) me=$(basename -- "$here") ;;
+esac
 compare=$root/compare
-work=$root/target/$(basename -- "$here")
+work=$root/target/$me
 # what all of them use: the folder proved with the library, and the folder oracle with the crate
 made=$root/target/compare
 mkdir -p "$work"
 
 fail() {
-    echo "$(basename -- "$here"): $*" >&2
+    echo "$me: $*" >&2
     exit 2
+}
+
+# A test that goes on all the same counts in $wrong what fails.
+wrong=0
+fails() { # WHAT
+    echo "$me: $*"
+    wrong=$((wrong + 1))
 }
 
 # ---- programs
@@ -39,13 +50,14 @@ need_rustc() {
 
 # ---- the proved library
 
-# Copies what is to be proved to DIR, with what is proved of it already: an unchanged crate needs no new proof there.
-copy_crates() { # DIR
+# Copies what is to be proved to DIR, with what is proved of it already in FROM, the repository if none is named: an unchanged
+# crate needs no new proof there.
+copy_crates() { # DIR [FROM]
     rm -rf "$1"
     mkdir -p "$1/target"
     cp -R "$root/crates" "$root/crates.txt" "$1"
     for part in rlib stamp; do
-        if [ -d "$root/target/$part" ]; then cp -R "$root/target/$part" "$1/target"; fi
+        if [ -d "${2:-$root}/target/$part" ]; then cp -R "${2:-$root}/target/$part" "$1/target"; fi
     done
 }
 
@@ -76,16 +88,15 @@ add_arm_calls() { # DIR
         ar r "$library" "$1/arm.o"
 }
 
-# Proves crate capi of the repository in DIR and writes DIR/target/staticlib/libcapi.a for this machine; DIR/build.log
-# has what was said. The kit writes libraries for x86-64 alone, and they cannot be linked on Arm. There the module that
-# the kit proved is compiled for Arm instead: what is compared is the same proved module, compiled for the machine at
-# hand, with the calls of arm.ll before those that pass structs. It stays in DIR, apart from the repository's own library
-# for x86-64.
-build_library() { # DIR
-    case $(uname -m) in
+# Proves crate capi of the repository in DIR and writes DIR/target/staticlib/libcapi.a for a machine, this one if none is
+# named; DIR/build.log has what was said. The kit writes libraries for x86-64 alone, and they cannot be linked on Arm. For
+# Arm the module that the kit proved is compiled there instead: it is the same proved module, with the calls of arm.ll
+# before those that pass structs. The library stays in DIR, apart from the repository's own for x86-64.
+build_library() { # DIR [MACHINE]
+    case ${2:-$(uname -m)} in
     x86_64) (cd "$1" && rt staticlib capi) ;;
     aarch64) shadow_kit "$1/kit" && (cd "$1" && RATTLE_HOME=$1/kit rt staticlib capi) && add_arm_calls "$1" ;;
-    *) echo "a library can be made for x86_64 and aarch64, not for $(uname -m)" && false ;;
+    *) echo "a library can be made for x86_64 and aarch64, not for ${2:-$(uname -m)}" && false ;;
     esac >"$1/build.log" 2>&1
 }
 
@@ -95,11 +106,12 @@ is_made() { # DIR
         diff -r "$root/crates" "$1/crates" >/dev/null
 }
 
-# Copies, proves and compiles what is to be measured or compared. What is there already stays; `rt ci` removes it.
-make_library() { # DIR
+# Copies, proves and compiles the library, for this machine if none is named. What is there already stays; `rt ci` removes it.
+make_library() { # DIR [MACHINE [FROM]]
     if is_made "$1"; then return; fi
-    copy_crates "$1"
-    if build_library "$1"; then
+    echo "$me: proving and compiling the library for ${2:-$(uname -m)}, which can take minutes" >&2
+    copy_crates "$1" "${3:-}"
+    if build_library "$1" "${2:-}"; then
         rt version >"$1/made-by"
         return
     fi
@@ -119,7 +131,7 @@ build_oracle() {
     3) said="the comparison with tpm2-protocol is skipped: $said" ;;
     *) fail "$said" ;;
     esac
-    echo "$(basename -- "$here"): $said"
+    echo "$me: $said"
 }
 
 # Links a Rust program with the library of the repository in DIR, and with the crate where there is one.

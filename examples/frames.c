@@ -128,6 +128,23 @@ static void write_own(void) {
     printf("  after that the array starts with %llu, as before\n", (unsigned long long)out[SKEIN_FIRST]);
 }
 
+/* Sessions in an array of the caller's own: the same one, and one more than a frame may have. */
+static void write_array(void) {
+    uint64_t out[SKEIN_NUMBERS] = {0};
+    uint8_t room[64];
+    struct skein_session records[SKEIN_MAX_SESSIONS + 1];
+    memset(records, 0, sizeof records);
+    records[0].handle = 0x40000009;
+    printf("the first command from an array of one session, and then of four\n");
+    memset(room, 0xEE, sizeof room);
+    uint32_t number = skein_command_write_array(SKEIN_SESSIONS, 0x15E, command + SKEIN_HEADER, 4, records, 1, NULL, 0, NULL, 0,
+                                                room, sizeof room, out);
+    compare(number, out, room, command, sizeof command);
+    number = skein_command_write_array(SKEIN_SESSIONS, 0x15E, command + SKEIN_HEADER, 4, records, SKEIN_MAX_SESSIONS + 1, NULL,
+                                       0, NULL, 0, room, sizeof room, out);
+    say_refusal(number, out);
+}
+
 /* Bytes that start with a command: where it stands, and where what is behind it. */
 static void split(const uint8_t *s, size_t len) {
     uint64_t out[SKEIN_NUMBERS] = {0};
@@ -146,6 +163,7 @@ int main(void) {
     read_command(command, sizeof command);
     read_response(0x17B, response, sizeof response);
     write_own();
+    write_array();
 
     memcpy(both, command, sizeof command);
     memcpy(both + sizeof command, response, sizeof response);

@@ -5,8 +5,9 @@
 //! back slices. A bad frame gets one [`Refusal`], with a number, a name and fields; nothing is changed by a refused call.
 //!
 //! The crate has no dependency, allocates nothing and needs no `std`; `unsafe` is in one file, which declares the calls.
-//! The names are those of tpm2-protocol where it has them. Link it with the library that `rt staticlib capi` writes: where
-//! that is not in `target/staticlib` of the repository, `SKEINLOFT_LIB_DIR` names its folder.
+//! The names are those of tpm2-protocol where it has them. An installed crate is linked with the library that was installed
+//! beside it, the crate in the repository with the one that `rt staticlib capi` writes to `target/staticlib`;
+//! `SKEINLOFT_LIB_DIR` names another folder.
 //!
 //! # Reading
 //!
