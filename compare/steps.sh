@@ -31,7 +31,7 @@ fails() { # WHAT
 # Root on Debian gets a package that is missing.
 try_install() { # PACKAGE
     if [ "$(id -u)" != 0 ] || ! command -v apt-get >/dev/null; then return; fi
-    { apt-get update -qq; apt-get install -y -qq --no-install-recommends "$1"; } >&2 || true
+    { apt-get update -qq; DEBIAN_FRONTEND=noninteractive apt-get install -y -qq --no-install-recommends "$1"; } >&2 || true
 }
 
 rustc_will_do() {
