@@ -51,13 +51,12 @@ rust_program() { # SOURCE OUT [WORDS..]
 # Makes skein, where something of it has changed, and sets $skein to it.
 make_skein() {
     if [ -n "$cargo" ]; then
-        run_cargo build "$root/skein" --release
+        run_cargo build "$root/skein" --release || fail "skein is not compiled"
         skein=$CARGO_TARGET_DIR/release/skein
         return
     fi
     skein=$work/skein
     if [ ! -f "$skein" ] || [ -n "$(find "$crate" "$root/skein" "$SKEINLOFT_LIB_DIR" -newer "$skein")" ]; then
-        build_crate
-        rust_program "$root/skein/src/main.rs" "$skein"
+        { build_crate && rust_program "$root/skein/src/main.rs" "$skein"; } || fail "skein is not compiled"
     fi
 }
