@@ -2,7 +2,7 @@
 -- Made of others it holds none, and then every read refuses 1(0,10,0). Stated of the definitions, and of the clauses that the
 -- toolchain makes of the functions that make a view.
 -- Assumes nothing.
-use mathlib.Core.Path.{_≡_, refl, sym, _∙_, ap}
+use mathlib.Core.Path.{_≡_, refl, sym, _∙_, ap, subst}
 use mathlib.Core.Bool.{true, false≢true}
 use mathlib.Core.List.{List, []}
 use Prim.Native.Nat.{ℕ, _-_}
@@ -20,19 +20,30 @@ use ghost.Atoms.{Atoms}
 use prog.Memory.{Memory}
 use prog.Routine.{Routine}
 use prog.Wp.{Heap}
+use Rattle.base.specs.declared.part.Span.{Span}
+use Rattle.base.specs.Answer.{Part}
 use Rattle.base.specs.Parts.{IsPart, Ties}
 use Rattle.base.specs.Said.{Said, gives, refuses, given, done}
 use Rattle.base.proofs.Facts.{PromisedBy, from-one}
 use Rattle.base.proofs.Checks.{needs-gives, then-gives, gives-injective}
 use Rattle.table.specs.Dispatch.{dispatch, commandCodes}
-use Rattle.frame.specs.Answer.{whole}
+use Rattle.frame.specs.declared.command.Command.{Command}
+use Rattle.frame.specs.Answer.{commandByValue, whole}
 use Rattle.frame.specs.Command.{authRange, castCommand, commandAreas, commandHandles, handlesRange, judgeCommand, parametersRange, readCommand}
 use Rattle.frame.specs.Header.{framePrefix, frameWhole, isOfTwo, readCc, readFrameTag, readRc, readSize, readTag, sizeOf, tagOf}
 use Rattle.frame.specs.Response.{bodyRange, castResponse, judgeResponse, readResponse, responseAreas}
+use Rattle.frame.specs.Parts.{ranged}
+use Rattle.frame.proofs.Laws.{command-ranges}
 use Rattle.frame.proofs.FrameLaws.{two-tags, tag-sound, whole-sound}
 use Rattle.view.specs.View.{held, short}
+use Rattle.view.proofs.command.TpmCommand.auth_area as auth-area
 use Rattle.view.proofs.command.TpmCommand.cast as command
+use Rattle.view.proofs.command.TpmCommand.handles as handles
+use Rattle.view.proofs.command.TpmCommand.parameters as parameters
+use Rattle.view.proofs.command.TpmCommandMut.auth_area_mut as auth-area-mut
 use Rattle.view.proofs.command.TpmCommandMut.cast_mut as command-mut
+use Rattle.view.proofs.command.TpmCommandMut.handles_mut as handles-mut
+use Rattle.view.proofs.command.TpmCommandMut.parameters_mut as parameters-mut
 use Rattle.view.proofs.response.TpmResponse.cast as response
 use Rattle.view.proofs.response.TpmResponseMut.cast_mut as response-mut
 
@@ -127,3 +138,40 @@ module _ {M : Type 1} (𝓤 : URA M) (H : Heap 𝓤) (A : Atoms 𝓤) (mem : Mem
   response-cast-mut κs a g r v =
       via 𝓤 _ (snd∗ 𝓤 (Ties 𝓤 H A κs (whole (now (a .0)) (castResponse (now (a .0)))) (a .0) (r .frame)) _)
       (from-one 𝓤 _ (λ is. holds (castResponse (now (a .0))) (a .0) (r .frame) is))
+
+-- ---- which parts a view gives back: r is the part of what is held where `parts` has that area of it
+
+abbrev pub Shows : (Command → Span) → RefT (List ℕ) → RefT (List ℕ) → Type 0
+Shows area s r = (c : Command) → commandByValue (now s) (readCommand dispatch commandCodes (now s)) ≡ gives c → IsPart (gives (ranged (area c))) s r
+
+module _ (s r : RefT (List ℕ)) where
+  shows-handles : IsPart (handlesRange dispatch commandCodes (now s)) s r → Shows (λ c. c .handles) s r
+  shows-handles is c e = subst (λ (p : Said Part). IsPart p s r) (command-ranges (now s) c e .0) is
+
+  shows-auth : IsPart (authRange dispatch commandCodes (now s)) s r → Shows (λ c. c .auth) s r
+  shows-auth is c e = subst (λ (p : Said Part). IsPart p s r) (command-ranges (now s) c e .1) is
+
+  shows-parameters : IsPart (parametersRange dispatch commandCodes (now s)) s r → Shows (λ c. c .parameters) s r
+  shows-parameters is c e = subst (λ (p : Said Part). IsPart p s r) (command-ranges (now s) c e .2) is
+
+module _ {M : Type 1} (𝓤 : URA M) (H : Heap 𝓤) (A : Atoms 𝓤) (mem : Memory → SProp 𝓤) (run : Routine → Fun 𝓤) where
+  pub command-handles : PromisedBy 𝓤 handles.ended (handles.clauses 𝓤 H A mem run) (λ κs a r later. Shows (λ c. c .handles) (a .0 .frame) r)
+  command-handles κs a g r v = from-one 𝓤 _ (λ is. shows-handles (a .0 .frame) r is)
+
+  pub command-auth-area : PromisedBy 𝓤 auth-area.ended (auth-area.clauses 𝓤 H A mem run) (λ κs a r later. Shows (λ c. c .auth) (a .0 .frame) r)
+  command-auth-area κs a g r v = from-one 𝓤 _ (λ is. shows-auth (a .0 .frame) r is)
+
+  pub command-parameters : PromisedBy 𝓤 parameters.ended (parameters.clauses 𝓤 H A mem run) (λ κs a r later. Shows (λ c. c .parameters) (a .0 .frame) r)
+  command-parameters κs a g r v = from-one 𝓤 _ (λ is. shows-parameters (a .0 .frame) r is)
+
+  pub command-handles-mut : PromisedBy 𝓤 handles-mut.ended (handles-mut.clauses 𝓤 H A mem run) (λ κs a r later. Shows (λ c. c .handles) (a .0 .frame) r)
+  command-handles-mut κs a g r v =
+      via 𝓤 _ (snd∗ 𝓤 (Ties 𝓤 H A κs (handlesRange dispatch commandCodes (now (a .0 .frame))) (a .0 .frame) r) _) (from-one 𝓤 _ (λ is. shows-handles (a .0 .frame) r is))
+
+  pub command-auth-area-mut : PromisedBy 𝓤 auth-area-mut.ended (auth-area-mut.clauses 𝓤 H A mem run) (λ κs a r later. Shows (λ c. c .auth) (a .0 .frame) r)
+  command-auth-area-mut κs a g r v =
+      via 𝓤 _ (snd∗ 𝓤 (Ties 𝓤 H A κs (authRange dispatch commandCodes (now (a .0 .frame))) (a .0 .frame) r) _) (from-one 𝓤 _ (λ is. shows-auth (a .0 .frame) r is))
+
+  pub command-parameters-mut : PromisedBy 𝓤 parameters-mut.ended (parameters-mut.clauses 𝓤 H A mem run) (λ κs a r later. Shows (λ c. c .parameters) (a .0 .frame) r)
+  command-parameters-mut κs a g r v =
+      via 𝓤 _ (snd∗ 𝓤 (Ties 𝓤 H A κs (parametersRange dispatch commandCodes (now (a .0 .frame))) (a .0 .frame) r) _) (from-one 𝓤 _ (λ is. shows-parameters (a .0 .frame) r is))
