@@ -1,4 +1,5 @@
-/* Reads a command and a response, says why some bytes are refused, and writes again what was read.
+/* Reads a command and a response, says why some bytes are refused, and writes again what was read. All of it goes by the
+   standard rules, but for one answer that the Rust's refuse.
    This is C99, and C++ as well. `examples/run` compiles it as both, links it with the proved library, and holds what it
    prints to frames.txt. */
 #include "skeinloft.h"
@@ -9,6 +10,9 @@
 /* A command with one session and no parameters, and a response to the command 0x17B with one session. */
 static const uint8_t command[27] = {0x80, 2, 0, 0, 0, 0x1B, 0, 0, 1, 0x5E, 0x80, 0, 0, 0, 0, 0, 0, 9, 0x40, 0, 0, 9};
 static const uint8_t response[23] = {0x80, 2, 0, 0, 0, 0x17, 0, 0, 0, 0, 0, 0, 0, 4, 0, 2, 0xAA, 0xBB, 0, 0, 1};
+
+/* What a TPM answers to a command whose tag it does not understand. */
+static const uint8_t bad_tag[10] = {0x00, 0xC4, 0, 0, 0, 0x0A, 0, 0, 0, 0x1E};
 
 static int faults;
 
@@ -26,6 +30,7 @@ static void say_refusal(uint32_t number, const uint64_t out[SKEIN_NUMBERS]) {
     case SKEIN_TOO_MANY_BYTES: name = "TooManyBytes"; break;
     case SKEIN_BUFFER_OVERFLOW: name = "BufferOverflow"; break;
     case SKEIN_NO_SUCH_KIND: name = "a kind that is none"; break;
+    case SKEIN_NO_SUCH_RULES: name = "rules that are none"; break;
     }
     printf("refused: %s at %llu, ", name, (unsigned long long)out[SKEIN_OFFSET]);
     switch (number) {
@@ -65,7 +70,7 @@ static void compare(uint32_t number, const uint64_t out[SKEIN_NUMBERS], const ui
 static void read_command(const uint8_t *s, size_t len) {
     uint64_t out[SKEIN_NUMBERS] = {0};
     uint8_t room[64];
-    struct skein_command_parts read = skein_command_parts(s, len, out);
+    struct skein_command_parts read = skein_command_parts(SKEIN_RULES_STANDARD, s, len, out);
     const struct skein_command *it = &read.command;
     if (read.refusal) {
         say_refusal(read.refusal, out);
@@ -78,16 +83,16 @@ static void read_command(const uint8_t *s, size_t len) {
     say_sessions(&it->sessions);
 
     memset(room, 0xEE, sizeof room);
-    uint32_t number = skein_command_write(it->tag, it->cc, s + it->handles.from, it->handles.to - it->handles.from,
-                                          it->sessions, s, len, s + it->parameters.from,
+    uint32_t number = skein_command_write(SKEIN_RULES_STANDARD, it->tag, it->cc, s + it->handles.from,
+                                          it->handles.to - it->handles.from, it->sessions, s, len, s + it->parameters.from,
                                           it->parameters.to - it->parameters.from, room, sizeof room, out);
     compare(number, out, room, s, len);
 }
 
-static void read_response(uint32_t cc, const uint8_t *s, size_t len) {
+static void read_response(uint32_t rules, uint32_t cc, const uint8_t *s, size_t len) {
     uint64_t out[SKEIN_NUMBERS] = {0};
     uint8_t room[64];
-    struct skein_response_parts read = skein_response_parts(cc, s, len, out);
+    struct skein_response_parts read = skein_response_parts(rules, cc, s, len, out);
     const struct skein_response *it = &read.response;
     if (read.refusal) {
         say_refusal(read.refusal, out);
@@ -100,7 +105,8 @@ static void read_response(uint32_t cc, const uint8_t *s, size_t len) {
     say_sessions(&it->sessions);
 
     memset(room, 0xEE, sizeof room);
-    uint32_t number = skein_response_write(it->rc, cc, s + it->handles.from, it->handles.to - it->handles.from,
+    if (it->tag == SKEIN_RSP_COMMAND) rules = SKEIN_RULES_STANDARD_BAD_TAG;
+    uint32_t number = skein_response_write(rules, it->rc, cc, s + it->handles.from, it->handles.to - it->handles.from,
                                            it->sessions, s, len, s + it->parameters.from,
                                            it->parameters.to - it->parameters.from, room, sizeof room, out);
     compare(number, out, room, s, len);
@@ -117,14 +123,16 @@ static void write_own(void) {
     sessions.first.handle = 0x40000009;
     printf("the first command from a session of our own\n");
     memset(room, 0xEE, sizeof room);
-    uint32_t number = skein_command_write(SKEIN_SESSIONS, 0x15E, command + SKEIN_HEADER, 4, sessions, NULL, 0, NULL, 0, room,
-                                          sizeof room, out);
+    uint32_t number = skein_command_write(SKEIN_RULES_STANDARD, SKEIN_SESSIONS, 0x15E, command + SKEIN_HEADER, 4, sessions,
+                                          NULL, 0, NULL, 0, room, sizeof room, out);
     compare(number, out, room, command, sizeof command);
 
     /* without room, and with no bytes at all, which a null pointer stands for */
     sessions.count = 0;
     out[SKEIN_FIRST] = 7;
-    say_refusal(skein_command_write(SKEIN_NO_SESSIONS, 0x144, NULL, 0, sessions, NULL, 0, NULL, 0, NULL, 0, out), out);
+    number = skein_command_write(SKEIN_RULES_STANDARD, SKEIN_NO_SESSIONS, 0x144, NULL, 0, sessions, NULL, 0, NULL, 0, NULL, 0,
+                                 out);
+    say_refusal(number, out);
     printf("  after that the array starts with %llu, as before\n", (unsigned long long)out[SKEIN_FIRST]);
 }
 
@@ -137,18 +145,18 @@ static void write_array(void) {
     records[0].handle = 0x40000009;
     printf("the first command from an array of one session, and then of four\n");
     memset(room, 0xEE, sizeof room);
-    uint32_t number = skein_command_write_array(SKEIN_SESSIONS, 0x15E, command + SKEIN_HEADER, 4, records, 1, NULL, 0, NULL, 0,
-                                                room, sizeof room, out);
+    uint32_t number = skein_command_write_array(SKEIN_RULES_STANDARD, SKEIN_SESSIONS, 0x15E, command + SKEIN_HEADER, 4, records,
+                                                1, NULL, 0, NULL, 0, room, sizeof room, out);
     compare(number, out, room, command, sizeof command);
-    number = skein_command_write_array(SKEIN_SESSIONS, 0x15E, command + SKEIN_HEADER, 4, records, SKEIN_MAX_SESSIONS + 1, NULL,
-                                       0, NULL, 0, room, sizeof room, out);
+    number = skein_command_write_array(SKEIN_RULES_STANDARD, SKEIN_SESSIONS, 0x15E, command + SKEIN_HEADER, 4, records,
+                                       SKEIN_MAX_SESSIONS + 1, NULL, 0, NULL, 0, room, sizeof room, out);
     say_refusal(number, out);
 }
 
 /* Bytes that start with a command: where it stands, and where what is behind it. */
 static void split(const uint8_t *s, size_t len) {
     uint64_t out[SKEIN_NUMBERS] = {0};
-    uint32_t number = skein_command_cast_prefix(s, len, out);
+    uint32_t number = skein_command_cast_prefix(SKEIN_RULES_STANDARD, s, len, out);
     if (number) {
         say_refusal(number, out);
         return;
@@ -161,7 +169,7 @@ int main(void) {
     uint8_t both[sizeof command + sizeof response];
     uint8_t shorter[sizeof command];
     read_command(command, sizeof command);
-    read_response(0x17B, response, sizeof response);
+    read_response(SKEIN_RULES_STANDARD, 0x17B, response, sizeof response);
     write_own();
     write_array();
 
@@ -177,6 +185,11 @@ int main(void) {
     read_command(command, sizeof command - 1);
     read_command(NULL, 0);
     /* the response read as one to a command that is none */
-    read_response(0, response, sizeof response);
+    read_response(SKEIN_RULES_STANDARD, 0, response, sizeof response);
+
+    /* the answer to a bad tag by the standard rules and by the Rust's, and a number that names no rules of this call */
+    read_response(SKEIN_RULES_STANDARD, 0x144, bad_tag, sizeof bad_tag);
+    read_response(SKEIN_RULES_RUST, 0x144, bad_tag, sizeof bad_tag);
+    read_response(SKEIN_RULES_STANDARD_BAD_TAG, 0x144, bad_tag, sizeof bad_tag);
     return faults != 0;
 }

@@ -12,6 +12,10 @@
    A REFUSED CALL changes nothing that was lent but those fields. Below, a refusal is written No.(fields), as 1(0,10,len): its
    number, then its fields. A call that names no refusal always answers.
 
+   THE RULES. Every call that judges a frame takes their number first, see enum skein_rules. Name SKEIN_RULES_STANDARD, or
+   SKEIN_RULES_RUST to answer as the provisioning tools that still run tpm2-protocol do. A number that names no rules of the
+   call is refused 101(0,rules) before anything else is looked at, which is not said again below.
+
    WHAT THE CALLER OWES
    - Every pointer is valid for its length. It may be null only where the length is 0.
    - `out` points to eight numbers, the data of a buffer to 64 or to 1,024 bytes; neither is null.
@@ -41,7 +45,7 @@ extern "C" {
 #endif
 
 /* Rises where a call or a struct changes its form or its meaning. */
-#define SKEIN_VERSION 1
+#define SKEIN_VERSION 2
 
 /* ---- numbers and places */
 
@@ -52,13 +56,23 @@ enum skein_refusal {
     SKEIN_TRAILING_DATA = 2,     /* offset, actual: bytes behind the end */
     SKEIN_INVALID_TAG = 3,       /* offset, value */
     SKEIN_INVALID_CC = 4,        /* offset, value: a command code that is none */
-    SKEIN_INVALID_RC = 5,        /* offset, value: a response code that is none */
+    SKEIN_INVALID_RC = 5,        /* offset, value: a response code that is none, or does not go with the tag */
     SKEIN_TOO_MANY_ITEMS = 6,    /* offset, limit, actual */
     SKEIN_INTEGER_TOO_LARGE = 7, /* offset, value */
     SKEIN_TOO_MANY_BYTES = 8,    /* offset, limit, actual */
     SKEIN_BUFFER_OVERFLOW = 9,   /* offset, needed, available: lent room too short */
     /* from 100 on: a number in the call itself names nothing */
-    SKEIN_NO_SUCH_KIND = 100     /* 0, kind */
+    SKEIN_NO_SUCH_KIND = 100,    /* 0, kind */
+    SKEIN_NO_SUCH_RULES = 101    /* 0, rules */
+};
+
+/* The rules by which a frame is judged or written. They differ in responses under the tag 0x00C4 alone, which is for the answer
+   to a bad tag: where a TPM does not understand a command's tag it answers 00C4 0000000A 0000001E, TPM_ST_RSP_COMMAND and
+   TPM_RC_BAD_TAG (Part 2, TPM_ST). */
+enum skein_rules {
+    SKEIN_RULES_RUST = 0,            /* the Rust's, of tpm2-protocol: that answer is refused 3(0,0x00C4) */
+    SKEIN_RULES_STANDARD = 1,        /* the Library's: that answer passes, to every command of the table */
+    SKEIN_RULES_STANDARD_BAD_TAG = 2 /* for the writers of responses alone: that answer is asked for */
 };
 
 /* The places of the lent array. */
@@ -75,8 +89,9 @@ enum skein_place {
     SKEIN_NUMBERS = 8    /* how many places there are */
 };
 
-/* The tags of the two kinds of frames (Part 2, TPM_ST). */
+/* The tags of frames (Part 2, TPM_ST). */
 enum skein_tag {
+    SKEIN_RSP_COMMAND = 0x00C4, /* of the answer to a bad tag, by the standard rules alone */
     SKEIN_NO_SESSIONS = 0x8001,
     SKEIN_SESSIONS = 0x8002
 };
@@ -189,40 +204,40 @@ SKEIN_HOLDS(skein_size_of_response_parts, sizeof(struct skein_response_parts) ==
    `_cast` goes up to the area's size, `_validate` and `_parts` check all. */
 
 /* Checks a command whole. Gives nothing. */
-uint32_t skein_command_validate(const uint8_t *s, size_t len, uint64_t out[8]);
+uint32_t skein_command_validate(uint32_t rules, const uint8_t *s, size_t len, uint64_t out[8]);
 
 /* Checks a command whole and gives all its parts by value; the array takes a refusal's fields alone. */
-struct skein_command_parts skein_command_parts(const uint8_t *s, size_t len, uint64_t out[8]);
+struct skein_command_parts skein_command_parts(uint32_t rules, const uint8_t *s, size_t len, uint64_t out[8]);
 
 /* Checks all but the entries. Gives the whole of the bytes: 0, len. */
-uint32_t skein_command_cast(const uint8_t *s, size_t len, uint64_t out[8]);
+uint32_t skein_command_cast(uint32_t rules, const uint8_t *s, size_t len, uint64_t out[8]);
 
 /* The same of a command at the start of the bytes. Gives it and what is behind it: 0, S, S, len. */
-uint32_t skein_command_cast_prefix(const uint8_t *s, size_t len, uint64_t out[8]);
+uint32_t skein_command_cast_prefix(uint32_t rules, const uint8_t *s, size_t len, uint64_t out[8]);
 
 /* One area. Gives its start and its end. The size field is not judged: all bytes count.
    Refuses 1(0,10,len), 4(6,cc), 1(10,handle bytes,left); the last two also 3(0,tag) and an area that is short, as above. */
-uint32_t skein_command_handles(const uint8_t *s, size_t len, uint64_t out[8]);
-uint32_t skein_command_auth_area(const uint8_t *s, size_t len, uint64_t out[8]);
-uint32_t skein_command_parameters(const uint8_t *s, size_t len, uint64_t out[8]);
+uint32_t skein_command_handles(uint32_t rules, const uint8_t *s, size_t len, uint64_t out[8]);
+uint32_t skein_command_auth_area(uint32_t rules, const uint8_t *s, size_t len, uint64_t out[8]);
+uint32_t skein_command_parameters(uint32_t rules, const uint8_t *s, size_t len, uint64_t out[8]);
 
 /* The command code. Gives it. Refuses 1(0,10,len), 4(6,cc). */
-uint32_t skein_command_cc(const uint8_t *s, size_t len, uint64_t out[8]);
+uint32_t skein_command_cc(uint32_t rules, const uint8_t *s, size_t len, uint64_t out[8]);
 
 /* Puts a command code in; nothing else of the frame is checked or changed. Gives nothing. Refuses 1(0,10,len), 4(0,cc). */
-uint32_t skein_command_set_cc(uint32_t cc, uint8_t *s, size_t len, uint64_t out[8]);
+uint32_t skein_command_set_cc(uint32_t rules, uint32_t cc, uint8_t *s, size_t len, uint64_t out[8]);
 
 /* Writes a command to the start of the room. Gives how many bytes that took; the room behind them stays as it was.
    `lent` are the bytes that the places in `sessions` count in: of a frame that was read, the frame.
    Refuses 3(0,tag) also where tag and sessions do not go together, 6(0,3,count), 4(0,cc), handle bytes that are short
    1(0,due,given) or too many 2(due,given-due), a nonce or an HMAC that ends behind `lent` 1(at,size,left), a total of more than
    32 bits 7(0,total), room too short 9(0,total,room_len). */
-uint32_t skein_command_write(uint16_t tag, uint32_t cc, const uint8_t *handles, size_t handles_len, struct skein_sessions sessions,
-                             const uint8_t *lent, size_t lent_len, const uint8_t *parameters, size_t parameters_len,
-                             uint8_t *room, size_t room_len, uint64_t out[8]);
+uint32_t skein_command_write(uint32_t rules, uint16_t tag, uint32_t cc, const uint8_t *handles, size_t handles_len,
+                             struct skein_sessions sessions, const uint8_t *lent, size_t lent_len, const uint8_t *parameters,
+                             size_t parameters_len, uint8_t *room, size_t room_len, uint64_t out[8]);
 
 /* The same with the sessions in an array of `count` records. */
-uint32_t skein_command_write_array(uint16_t tag, uint32_t cc, const uint8_t *handles, size_t handles_len,
+uint32_t skein_command_write_array(uint32_t rules, uint16_t tag, uint32_t cc, const uint8_t *handles, size_t handles_len,
                                    const struct skein_session *records, size_t count, const uint8_t *lent, size_t lent_len,
                                    const uint8_t *parameters, size_t parameters_len, uint8_t *room, size_t room_len,
                                    uint64_t out[8]);
@@ -231,38 +246,44 @@ uint32_t skein_command_write_array(uint16_t tag, uint32_t cc, const uint8_t *han
 
    The envelope is refused as a command's, then a code that does not read, 5(6,rc). What is behind the header depends on the
    command that is answered: `cc` is its code. Refused for it: 4(0,cc); of a code that is not success, 3(0,0x8002) and
-   2(10,len-10); of success, handles, area and entries as in a command. */
+   2(10,len-10); of success, handles, area and entries as in a command.
+
+   By the standard rules 0x00C4 is a response's tag too. Under it the code 0x1E reads and no other, not even success: 5(6,rc).
+   What passes there is an error as any other, and its areas are empty. */
 
 /* Checks a response to the command cc whole. Gives nothing. */
-uint32_t skein_response_validate(uint32_t cc, const uint8_t *s, size_t len, uint64_t out[8]);
+uint32_t skein_response_validate(uint32_t rules, uint32_t cc, const uint8_t *s, size_t len, uint64_t out[8]);
 
 /* Checks a response to the command cc whole and gives all its parts by value; the array takes a refusal's fields alone. */
-struct skein_response_parts skein_response_parts(uint32_t cc, const uint8_t *s, size_t len, uint64_t out[8]);
+struct skein_response_parts skein_response_parts(uint32_t rules, uint32_t cc, const uint8_t *s, size_t len, uint64_t out[8]);
 
 /* Checks the envelope and the response code. Gives the whole of the bytes: 0, len. */
-uint32_t skein_response_cast(const uint8_t *s, size_t len, uint64_t out[8]);
+uint32_t skein_response_cast(uint32_t rules, const uint8_t *s, size_t len, uint64_t out[8]);
 
 /* The same of a response at the start of the bytes. Gives it and what is behind it: 0, S, S, len. */
-uint32_t skein_response_cast_prefix(const uint8_t *s, size_t len, uint64_t out[8]);
+uint32_t skein_response_cast_prefix(uint32_t rules, const uint8_t *s, size_t len, uint64_t out[8]);
 
 /* What is behind the header. Gives 10 and len. Refuses 1(0,10,len). */
 uint32_t skein_response_body(const uint8_t *s, size_t len, uint64_t out[8]);
 
-/* The response code. Gives it. Refuses 1(0,10,len), 5(6,rc). */
-uint32_t skein_response_rc(const uint8_t *s, size_t len, uint64_t out[8]);
+/* The response code, which has to read under the frame's tag. Gives it. Refuses 1(0,10,len), 5(6,rc). */
+uint32_t skein_response_rc(uint32_t rules, const uint8_t *s, size_t len, uint64_t out[8]);
 
-/* Puts a response code in; nothing else of the frame is checked or changed. Gives nothing. Refuses 1(0,10,len), 5(0,rc). */
-uint32_t skein_response_set_rc(uint32_t rc, uint8_t *s, size_t len, uint64_t out[8]);
+/* Puts in a response code that reads under the frame's tag; nothing else is checked or changed. Gives nothing.
+   Refuses 1(0,10,len), 5(0,rc). */
+uint32_t skein_response_set_rc(uint32_t rules, uint32_t rc, uint8_t *s, size_t len, uint64_t out[8]);
 
 /* Writes a response with the code rc to the command cc, as skein_command_write does; sessions choose the tag.
    Refuses 6(0,3,count), 4(0,cc), 5(0,rc), sessions with a code that is not success 3(0,0x8002), and from the handles on as a
-   command. A code that is not success is written in ten bytes, and the other parts are ignored. */
-uint32_t skein_response_write(uint32_t rc, uint32_t cc, const uint8_t *handles, size_t handles_len, struct skein_sessions sessions,
-                              const uint8_t *lent, size_t lent_len, const uint8_t *parameters, size_t parameters_len,
-                              uint8_t *room, size_t room_len, uint64_t out[8]);
+   command. A code that is not success is written in ten bytes, and the other parts are ignored.
+   By SKEIN_RULES_STANDARD_BAD_TAG, which writes again what was read under the tag 0x00C4, the code 0x1E is written under that
+   tag. Any other is refused 5(0,rc): one that does not read before the check of the sessions, one that reads behind it. */
+uint32_t skein_response_write(uint32_t rules, uint32_t rc, uint32_t cc, const uint8_t *handles, size_t handles_len,
+                              struct skein_sessions sessions, const uint8_t *lent, size_t lent_len, const uint8_t *parameters,
+                              size_t parameters_len, uint8_t *room, size_t room_len, uint64_t out[8]);
 
 /* The same with the sessions in an array of `count` records. */
-uint32_t skein_response_write_array(uint32_t rc, uint32_t cc, const uint8_t *handles, size_t handles_len,
+uint32_t skein_response_write_array(uint32_t rules, uint32_t rc, uint32_t cc, const uint8_t *handles, size_t handles_len,
                                     const struct skein_session *records, size_t count, const uint8_t *lent, size_t lent_len,
                                     const uint8_t *parameters, size_t parameters_len, uint8_t *room, size_t room_len,
                                     uint64_t out[8]);

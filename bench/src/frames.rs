@@ -4,7 +4,7 @@
 //! What the Rust needs to have at hand before it can be asked is made outside of the loop: the view for `validate` and
 //! for the areas, the command as a member of `TpmCc`, and the number of a response's handles.
 
-use crate::calls::{self, Frame, Out, Parts};
+use crate::calls::{self, Frame, Out, Parts, RUST, STANDARD};
 use crate::frame::{known, make, oracle, real};
 use crate::oracle::tell;
 use crate::random::Random;
@@ -64,12 +64,12 @@ impl Pair {
 
     /// All parts of the command.
     pub fn command_frame(&self) -> Frame {
-        passed(calls::command_parts(&self.command, &mut [0; 8]))
+        passed(calls::command_parts(RUST, &self.command, &mut [0; 8]))
     }
 
     /// All parts of the response.
     pub fn response_frame(&self) -> Frame {
-        passed(calls::response_parts(self.cc().value(), &self.response, &mut [0; 8]))
+        passed(calls::response_parts(RUST, self.cc().value(), &self.response, &mut [0; 8]))
     }
 }
 
@@ -102,7 +102,7 @@ pub fn command_cast(side: Side, n: u64) {
         &real(),
         n,
         match side {
-            Side::Ours => |pair: &Pair, out| calls::command_cast(&pair.command, out),
+            Side::Ours => |pair: &Pair, out| calls::command_cast(RUST, &pair.command, out),
             Side::Other => |pair, out| oracle::command_cast(&pair.command, out),
             Side::Empty => |_, _| 0,
         },
@@ -114,7 +114,7 @@ pub fn response_cast(side: Side, n: u64) {
         &real(),
         n,
         match side {
-            Side::Ours => |pair: &Pair, out| calls::response_cast(&pair.response, out),
+            Side::Ours => |pair: &Pair, out| calls::response_cast(RUST, &pair.response, out),
             Side::Other => |pair, out| oracle::response_cast(&pair.response, out),
             Side::Empty => |_, _| 0,
         },
@@ -127,7 +127,7 @@ pub fn command_validate(side: Side, n: u64, pairs: &[Pair]) {
         &views,
         n,
         match side {
-            Side::Ours => |view: &&TpmCommand, out| calls::command_validate(view.as_bytes(), out),
+            Side::Ours => |view: &&TpmCommand, out| calls::command_validate(RUST, view.as_bytes(), out),
             Side::Other => |view, out| tell(view.validate(), |()| [], out),
             Side::Empty => |_, _| 0,
         },
@@ -135,12 +135,21 @@ pub fn command_validate(side: Side, n: u64, pairs: &[Pair]) {
 }
 
 pub fn response_validate(side: Side, n: u64, pairs: &[Pair]) {
+    response_validate_by(side, n, pairs, |it, out| calls::response_validate(RUST, it.code, it.bytes, out));
+}
+
+/// The same by the standard rules, on frames that both readings pass.
+pub fn response_validate_standard(side: Side, n: u64) {
+    response_validate_by(side, n, real(), |it, out| calls::response_validate(STANDARD, it.code, it.bytes, out));
+}
+
+fn response_validate_by(side: Side, n: u64, pairs: &[Pair], ours: fn(&Answer, &mut Out) -> u32) {
     let answers: Vec<Answer> = pairs.iter().map(Pair::answer).collect();
     each(
         &answers,
         n,
         match side {
-            Side::Ours => |answer: &Answer, out| calls::response_validate(answer.code, answer.bytes, out),
+            Side::Ours => ours,
             Side::Other => |answer, out| tell(answer.view.validate(answer.cc), |()| [], out),
             Side::Empty => |_, _| 0,
         },
@@ -156,7 +165,9 @@ pub fn command_areas(side: Side, n: u64) {
         match side {
             Side::Ours => |view: &&TpmCommand, out| {
                 let s = view.as_bytes();
-                calls::command_handles(s, out) | calls::command_auth_area(s, out) | calls::command_parameters(s, out)
+                calls::command_handles(RUST, s, out)
+                    | calls::command_auth_area(RUST, s, out)
+                    | calls::command_parameters(RUST, s, out)
             },
             Side::Other => |view, out| {
                 let lengths = || Ok([view.handles()?.len(), view.auth_area()?.len(), view.parameters()?.len()]);
@@ -172,7 +183,7 @@ pub fn command_parts(side: Side, n: u64) {
         &real(),
         n,
         match side {
-            Side::Ours => |pair: &Pair, out| black_box(&calls::command_parts(&pair.command, out)).refusal,
+            Side::Ours => |pair: &Pair, out| black_box(&calls::command_parts(RUST, &pair.command, out)).refusal,
             Side::Other => |pair, out| black_box(&oracle::command_parts(&pair.command, out)).refusal,
             Side::Empty => |_, _| 0,
         },
@@ -185,7 +196,7 @@ pub fn response_parts(side: Side, n: u64) {
         &answers,
         n,
         match side {
-            Side::Ours => |it: &Answer, out| black_box(&calls::response_parts(it.code, it.bytes, out)).refusal,
+            Side::Ours => |it: &Answer, out| black_box(&calls::response_parts(RUST, it.code, it.bytes, out)).refusal,
             Side::Other => |it, out| black_box(&oracle::response_parts_of(it.cc, it.handles, it.bytes, out)).refusal,
             Side::Empty => |_, _| 0,
         },

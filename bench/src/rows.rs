@@ -41,6 +41,7 @@ pub static ROWS: &[Row] = &[
     Row { name: "response cast, real frames", run: frames::response_cast },
     Row { name: "command validate, real frames", run: |side, n| frames::command_validate(side, n, frames::real()) },
     Row { name: "response validate, real frames", run: |side, n| frames::response_validate(side, n, frames::real()) },
+    Row { name: "response validate, standard reading", run: frames::response_validate_standard },
     Row { name: "command areas, real frames", run: frames::command_areas },
     Row { name: "command parts, real frames", run: frames::command_parts },
     Row { name: "response parts, real frames", run: frames::response_parts },

@@ -1,7 +1,7 @@
 //! The rows beside tpm2-tss's marshalling library, which `tss.c` asks. Where that library is missing the rows are there
 //! by name, to be told of, and are not measured.
 
-use crate::calls::{self, Out};
+use crate::calls::{self, Out, RUST};
 use crate::frame::known;
 use crate::frames::{self, Pair, each};
 use crate::rows::{Row, Side};
@@ -88,7 +88,7 @@ fn parts(side: Side, n: u64) {
         &asked,
         n,
         match side {
-            Side::Ours => |it: &Asked, out| black_box(&calls::command_parts(it.bytes, out)).refusal,
+            Side::Ours => |it: &Asked, out| black_box(&calls::command_parts(RUST, it.bytes, out)).refusal,
             Side::Other => |it, _| it.read(black_box(&mut MaybeUninit::uninit())),
             Side::Empty => |_, _| 0,
         },

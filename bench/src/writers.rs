@@ -1,7 +1,7 @@
 //! The rows of the writers. A frame is made, and each side gets its parts outside of the loop, in the form that its
 //! writer takes. What a side writes has to be that frame again: this is seen to before it is measured.
 
-use crate::calls::{self, Frame, Handed, Out, Span};
+use crate::calls::{self, Frame, Handed, Out, RUST, Span};
 use crate::frames::Pair;
 use crate::oracle::tell;
 use crate::rows::{Side, repeat};
@@ -36,7 +36,7 @@ pub fn command(side: Side, n: u64, [pair]: &[Pair; 1]) {
 pub fn command_by_us(n: u64, pair: &Pair) {
     let frame = pair.command_frame();
     again(&pair.command, &(frame, handed(&pair.command, frame)), n, |(frame, given), room, out| {
-        calls::command_write(frame.tag, frame.code, *given, room, out)
+        calls::command_write(RUST, frame.tag, frame.code, *given, room, out)
     });
 }
 
@@ -53,7 +53,7 @@ fn command_array_by_us(n: u64, pair: &Pair) {
     let frame = pair.command_frame();
     let given = handed(&pair.command, frame).over(&frame.sessions.three);
     again(&pair.command, &(frame, given), n, |(frame, given), room, out| {
-        calls::command_write_array(frame.tag, frame.code, *given, room, out)
+        calls::command_write_array(RUST, frame.tag, frame.code, *given, room, out)
     });
 }
 
@@ -78,7 +78,7 @@ pub fn response(side: Side, n: u64, [pair]: &[Pair; 1]) {
 fn response_by_us(n: u64, pair: &Pair) {
     let (frame, cc) = (pair.response_frame(), pair.cc().value());
     again(&pair.response, &(cc, frame, handed(&pair.response, frame)), n, |(cc, frame, given), room, out| {
-        calls::response_write(frame.code, *cc, *given, room, out)
+        calls::response_write(RUST, frame.code, *cc, *given, room, out)
     });
 }
 
@@ -94,7 +94,7 @@ fn response_array_by_us(n: u64, pair: &Pair) {
     let (frame, cc) = (pair.response_frame(), pair.cc().value());
     let given = handed(&pair.response, frame).over(&frame.sessions.three);
     again(&pair.response, &(cc, frame, given), n, |(cc, frame, given), room, out| {
-        calls::response_write_array(frame.code, *cc, *given, room, out)
+        calls::response_write_array(RUST, frame.code, *cc, *given, room, out)
     });
 }
 

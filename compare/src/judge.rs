@@ -5,6 +5,7 @@
 //! between two calls that agree.
 
 use crate::answer::{Answer, Hex};
+use crate::by::By;
 use std::fmt::{self, Display};
 use std::ops::AddAssign;
 use std::sync::atomic::{AtomicU64, Ordering};
@@ -89,9 +90,42 @@ impl Display for Count {
     }
 }
 
+/// Counts by the rules that the calls were given.
+#[derive(Clone, Copy, Default)]
+pub struct Counts([Count; By::ALL.len()]);
+
+impl Counts {
+    pub fn add(&mut self, tally: &Tally) {
+        self.0[tally.by as usize] += tally.count();
+    }
+
+    pub fn all(&self) -> Count {
+        let mut all = Count::default();
+        self.0.iter().for_each(|&count| all += count);
+        all
+    }
+
+    /// Prints a line for each of the rules by which calls were made, and one for all; where none but the Rust's were named,
+    /// the last alone.
+    pub fn tell(&self, whose: &str) {
+        let made: Vec<_> = By::ALL.iter().zip(&self.0).filter(|(_, count)| count.calls > 0).collect();
+        if made.len() > 1 {
+            made.iter().for_each(|(by, count)| println!("{whose}: {} {count}", by.phrase()));
+        }
+        println!("{whose}: in all {}", self.all());
+    }
+}
+
+impl AddAssign for Counts {
+    fn add_assign(&mut self, more: Self) {
+        self.0.iter_mut().zip(more.0).for_each(|(mine, more)| *mine += more);
+    }
+}
+
 /// The count of one call.
 pub struct Tally {
     name: String,
+    by: By,
     calls: u64,
     mismatches: u64,
     /// One for each judge, in their order.
@@ -101,9 +135,16 @@ pub struct Tally {
 }
 
 impl Tally {
+    /// Of a call that takes no rules.
     pub fn new<C: Case>(name: impl Into<String>) -> Self {
+        Self::of::<C>(name, By::Rust)
+    }
+
+    /// Of a call by these rules.
+    pub fn of<C: Case>(name: impl Into<String>, by: By) -> Self {
         Self {
-            name: name.into(),
+            name: name.into() + by.word(),
+            by,
             calls: 0,
             mismatches: 0,
             voices: C::JUDGES.iter().map(|judge| Voice { judge: judge.name, spoke: 0, against: 0 }).collect(),

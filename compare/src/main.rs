@@ -14,6 +14,7 @@
 #![cfg_attr(not(oracle), allow(dead_code))]
 
 mod answer;
+mod by;
 // declared once for all that call the library, also for calls that are not compared
 #[allow(dead_code)]
 #[path = "../../bindings/rust/src/calls.rs"]
@@ -34,7 +35,7 @@ mod traffic;
 mod view;
 mod write;
 
-use judge::{Count, Tally};
+use judge::{Counts, Tally};
 use random::Random;
 use std::process::ExitCode;
 
@@ -93,27 +94,28 @@ fn task(mut words: impl Iterator<Item = String>) -> Result<Task, String> {
 /// Each suite starts from the seed, so that it repeats alone as it ran among others.
 fn compare(seed: u64, thin: bool, suites: &[&Suite]) -> ExitCode {
     println!("compare: seed {seed}{}", if thin { ", thinned" } else { "" });
-    let (mut made, mut recorded) = (Count::default(), Count::default());
+    let (mut made, mut recorded) = (Counts::default(), Counts::default());
     for suite in suites {
-        let count = if suite.name == TRAFFIC { &mut recorded } else { &mut made };
-        *count += one_suite(suite, seed, thin);
+        let counts = if suite.name == TRAFFIC { &mut recorded } else { &mut made };
+        *counts += one_suite(suite, seed, thin);
     }
-    verdict(judge::RULES, made.calls > 0, made.against_rules);
-    verdict(judge::CRATE, made.calls > 0 && cfg!(oracle), made.against_crate);
-    verdict("recorded traffic", recorded.calls > 0, recorded.mismatches);
+    let of_made = made.all();
+    verdict(judge::RULES, of_made.calls > 0, of_made.against_rules);
+    verdict(judge::CRATE, of_made.calls > 0 && cfg!(oracle), of_made.against_crate);
+    verdict("recorded traffic", recorded.all().calls > 0, recorded.all().mismatches);
     made += recorded;
-    println!("compare: {made}");
-    if made.mismatches == 0 { ExitCode::SUCCESS } else { ExitCode::FAILURE }
+    made.tell("compare");
+    if made.all().mismatches == 0 { ExitCode::SUCCESS } else { ExitCode::FAILURE }
 }
 
-fn one_suite(suite: &Suite, seed: u64, thin: bool) -> Count {
-    let mut all = Count::default();
+fn one_suite(suite: &Suite, seed: u64, thin: bool) -> Counts {
+    let mut counts = Counts::default();
     for tally in (suite.run)(&mut Random::new(seed), thin) {
         println!("{}: {tally}", suite.name);
-        all += tally.count();
+        counts.add(&tally);
     }
-    println!("{}: in all {all}", suite.name);
-    all
+    counts.tell(suite.name);
+    counts
 }
 
 /// What came of one of the three. What is not at hand, or was not asked for, is skipped: it neither passes nor fails.

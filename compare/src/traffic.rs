@@ -5,10 +5,10 @@
 
 mod published;
 
-use crate::calls;
+use crate::calls::{self, RUST};
 use crate::frame::{Desk, Kind, named, real};
 use crate::judge::Tally;
-use crate::write::Again;
+use crate::write::{self, Again};
 use std::collections::BTreeMap;
 use std::fs;
 use std::path::{Path, PathBuf};
@@ -95,13 +95,13 @@ fn read(file: &Path) -> String {
     fs::read_to_string(file).unwrap_or_else(|error| panic!("{}: {error}", file.display()))
 }
 
-/// Makes all calls on a command, and gives the number of its full check.
+/// Makes all calls on a command, and gives the number of its full check in the Rust reading.
 fn ask_command(Desks { read, again }: &mut Desks, frame: &[u8]) -> u32 {
     read.lay(frame);
     read.ask_kind(Kind::Header, 0);
     read.ask_kind(Kind::Command, 0);
-    again.command(frame);
-    calls::command_validate(frame, &mut [0; 8])
+    again.frame(write::Kind::Command, 0, frame);
+    calls::command_validate(RUST, frame, &mut [0; 8])
 }
 
 /// The same of a response to the command of a code.
@@ -109,6 +109,6 @@ fn ask_response(Desks { read, again }: &mut Desks, cc: u32, frame: &[u8]) -> u32
     read.lay(frame);
     read.ask_kind(Kind::Header, 0);
     read.ask_kind(Kind::Response, cc);
-    again.response(cc, frame);
-    calls::response_validate(cc, frame, &mut [0; 8])
+    again.frame(write::Kind::Response, cc, frame);
+    calls::response_validate(RUST, cc, frame, &mut [0; 8])
 }

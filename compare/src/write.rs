@@ -1,7 +1,9 @@
 //! The write suite: whole commands and responses, written from their parts into lent room.
 //!
-//! Document 01's rules, written out, judge everything. The crate judges inside document 01's domain, read with document
-//! 01's limit on sessions and no other change.
+//! Each call is made in the Rust mode and in the standard one, and a response also with the tag of the answer to a bad tag
+//! asked for. Document 01's rules, written out with those of the standard mode, judge everything. The crate judges inside
+//! document 01's domain, read with document 01's limit on sessions and no other change, and in the standard mode too, which
+//! is the Rust's where that tag is not asked for.
 
 mod again;
 mod desk;
@@ -19,6 +21,7 @@ pub use again::Again;
 pub use desk::Desk;
 
 use crate::answer::{Answer, Hex};
+use crate::by::{Given, MODES, READINGS};
 use crate::calls::{self, Field, Handed, Out, Session, Sessions};
 use crate::judge::{Case, Judge, Tally};
 use crate::random::Random;
@@ -44,6 +47,11 @@ impl Kind {
             (Self::Response, true) => "response_write_array",
         }
     }
+
+    /// The numbers of its modes.
+    pub fn modes(self) -> &'static [u32] {
+        if self == Self::Command { READINGS } else { MODES }
+    }
 }
 
 /// A call with its input.
@@ -52,6 +60,8 @@ pub struct Write {
     pub kind: Kind,
     /// The sessions go in as an array of records, of at most `MOST`; the judges are asked the same either way.
     pub array: bool,
+    /// The number of the mode.
+    pub by: u32,
     /// The tag of a command, the code of a response.
     pub number: u32,
     /// The code of the command that is written, or answered.
@@ -69,11 +79,13 @@ pub struct Write {
 static FILL: LazyLock<Vec<u8>> =
     LazyLock::new(|| (0..1_usize << 20).map(|at| (at * 7 ^ at >> 8) as u8 ^ 0xC3).collect());
 
-/// `NAME NUMBER CC HANDLES COUNT SESSION SESSION SESSION LENT PARAMETERS ROOM`, the room by its length.
+/// `NAME NUMBER CC HANDLES COUNT SESSION SESSION SESSION LENT PARAMETERS ROOM`, the room by its length, and the mode behind
+/// it where it is not the Rust's.
 impl fmt::Display for Write {
     fn fmt(&self, f: &mut fmt::Formatter) -> fmt::Result {
         write!(f, "{} {} {} {} ", self.kind.name(self.array), self.number, self.cc, Hex(&self.handles))?;
-        write!(f, "{} {} {} {}", self.sessions, Hex(&self.lent), Hex(&self.parameters), self.room)
+        write!(f, "{} {} {} {}", self.sessions, Hex(&self.lent), Hex(&self.parameters), self.room)?;
+        write!(f, "{}", Given(self.by))
     }
 }
 
@@ -91,13 +103,13 @@ impl Case for Write {
 
     fn ours(&self, answer: &mut Answer) {
         let records = self.records();
-        let (number, tag, cc) = (self.number, self.number as u16, self.cc);
+        let (by, number, tag, cc) = (self.by, self.number, self.number as u16, self.cc);
         self.try_write(answer, |given, room, out| {
             Some(match (self.kind, self.array) {
-                (Kind::Command, false) => calls::command_write(tag, cc, given, room, out),
-                (Kind::Command, true) => calls::command_write_array(tag, cc, given.over(&records), room, out),
-                (Kind::Response, false) => calls::response_write(number, cc, given, room, out),
-                (Kind::Response, true) => calls::response_write_array(number, cc, given.over(&records), room, out),
+                (Kind::Command, false) => calls::command_write(by, tag, cc, given, room, out),
+                (Kind::Command, true) => calls::command_write_array(by, tag, cc, given.over(&records), room, out),
+                (Kind::Response, false) => calls::response_write(by, number, cc, given, room, out),
+                (Kind::Response, true) => calls::response_write_array(by, number, cc, given.over(&records), room, out),
             })
         });
     }
@@ -157,14 +169,19 @@ fn without_sessions<'a>(handles: &'a [u8], parameters: &'a [u8]) -> Handed<'a> {
 fn by_document(case: &Write, answer: &mut Answer) -> bool {
     case.try_write(answer, |given, room, out| {
         Some(match case.kind {
-            Kind::Command => rules::command_write(case.number as u16, case.cc, given, room, out),
-            Kind::Response => rules::response_write(case.number, case.cc, given, room, out),
+            Kind::Command => rules::command_write(case.by, case.number as u16, case.cc, given, room, out),
+            Kind::Response => rules::response_write(case.by, case.number, case.cc, given, room, out),
         })
     })
 }
 
+/// The crate has the Rust mode alone, and the standard one is the same where the tag of the answer to a bad tag is not asked
+/// for.
 #[cfg(oracle)]
 fn by_crate(case: &Write, answer: &mut Answer) -> bool {
+    if !READINGS.contains(&case.by) {
+        return false;
+    }
     case.try_write(answer, |given, room, out| match case.kind {
         Kind::Command => limit::command_write(case.number as u16, case.cc, given, case.needed(), room, out),
         Kind::Response => limit::response_write(case.number, case.cc, given, case.needed(), room, out),

@@ -1,12 +1,14 @@
 //! The words of the command line.
 
-use skeinloft::TpmCc;
+use skeinloft::{Reading, Rules, TpmCc};
 use std::ffi::OsString;
 
-pub const USAGE: &str = "usage: skein inspect [--json] [--raw [--pairs]] [--answers-to COMMAND] [FILE]";
+pub const USAGE: &str =
+    "usage: skein inspect [--json] [--raw [--pairs]] [--answers-to COMMAND] [--reading READING] [FILE]";
 
 pub const HELP: &str = "\
-usage: skein inspect [--json] [--raw [--pairs]] [--answers-to COMMAND] [FILE]
+usage: skein inspect [--json] [--raw [--pairs]] [--answers-to COMMAND]
+                     [--reading READING] [FILE]
        skein --help | --version
 
 Shows TPM 2.0 command and response frames, and why a bad one is refused.
@@ -15,7 +17,8 @@ its answer on a line with a space between them.
 
 A frame that stands alone is taken for a command where its code is a
 command's. Else it is taken for a response, of which the header alone is
-judged: what is behind it depends on the command that it answers.
+judged: what is behind it depends on the command that it answers. Under the
+tag 00C4, which no command has, it is a response and is judged whole.
 
   --json                one object a frame
   --raw                 FILE has raw bytes: frames end to end, cut by their
@@ -24,6 +27,9 @@ judged: what is behind it depends on the command that it answers.
   --answers-to COMMAND  frames that stand alone are answers to this command,
                         which is a name (TPM2_GetRandom, GetRandom) or a
                         code (0x17B)
+  --reading READING     standard, as without this option, or rust, as the
+                        crate tpm2-protocol reads: it refuses what a TPM
+                        answers to a command whose tag it did not understand
 
 The status is 0 where every frame passes, 1 where one is refused or a line
 has none, 2 where the words are wrong or FILE cannot be read.
@@ -43,6 +49,7 @@ pub struct Inspect {
     pub raw: bool,
     pub pairs: bool,
     pub answers_to: Option<TpmCc>,
+    pub rules: Rules,
     /// None for standard input.
     pub file: Option<OsString>,
 }
@@ -64,6 +71,7 @@ pub fn understand(words: impl IntoIterator<Item = OsString>) -> Result<Asked, St
             Some("--raw") => asked.raw = true,
             Some("--pairs") => asked.pairs = true,
             Some("--answers-to") => asked.answers_to = Some(command(words.next())?),
+            Some("--reading") => asked.rules = Rules { reading: reading(words.next())? },
             Some("--help" | "-h") => return Ok(Asked::Help),
             Some("-") => {}
             Some(option) if option.starts_with('-') => return Err(format!("there is no option {option}")),
@@ -78,6 +86,15 @@ pub fn understand(words: impl IntoIterator<Item = OsString>) -> Result<Asked, St
         return Err("--answers-to does not go with --pairs".to_owned());
     }
     Ok(Asked::Inspect(asked))
+}
+
+fn reading(word: Option<OsString>) -> Result<Reading, String> {
+    let word = word.ok_or("--reading names no READING")?;
+    match word.to_str() {
+        Some("standard") => Ok(Reading::Standard),
+        Some("rust") => Ok(Reading::Rust),
+        _ => Err(format!("there is no reading '{}': it is standard or rust", word.to_string_lossy())),
+    }
 }
 
 /// A command by its name, with one of the Library's prefixes or without, or by its code.
@@ -95,7 +112,7 @@ fn command(word: Option<OsString>) -> Result<TpmCc, String> {
 #[cfg(test)]
 mod tests {
     use super::{Asked, Inspect, understand};
-    use skeinloft::TpmCc;
+    use skeinloft::{Rules, TpmCc};
 
     fn of(words: &str) -> Result<Asked, String> {
         understand(words.split_whitespace().map(Into::into))
@@ -103,12 +120,18 @@ mod tests {
 
     #[test]
     fn words_are_understood() {
-        let all = Inspect { raw: true, pairs: true, json: true, answers_to: None, file: Some("f".into()) };
+        let all = Inspect { raw: true, pairs: true, json: true, file: Some("f".into()), ..Inspect::default() };
         assert_eq!(of("inspect --raw f --pairs --json"), Ok(Asked::Inspect(all)));
         assert_eq!(of("inspect -"), Ok(Asked::Inspect(Inspect::default())));
         for word in ["GetRandom", "getrandom", "TPM2_GetRandom", "TPM_CC_GetRandom", "0x17b"] {
             let asked = Inspect { answers_to: Some(TpmCc::GetRandom), ..Inspect::default() };
             assert_eq!(of(&format!("inspect --answers-to {word}")), Ok(Asked::Inspect(asked)));
+        }
+        for (words, rules) in
+            [("", Rules::STANDARD), ("--reading standard", Rules::STANDARD), ("--reading rust", Rules::RUST)]
+        {
+            let asked = Inspect { rules, ..Inspect::default() };
+            assert_eq!(of(&format!("inspect {words}")), Ok(Asked::Inspect(asked)));
         }
     }
 
@@ -123,6 +146,8 @@ mod tests {
             "inspect --answers-to",
             "inspect --answers-to Nothing",
             "inspect --raw --pairs --answers-to Load",
+            "inspect --reading",
+            "inspect --reading Rust",
         ] {
             assert!(of(words).is_err(), "{words}");
         }

@@ -15,7 +15,7 @@ pub fn show(place: Place, seen: &Seen, out: &mut String) -> fmt::Result {
     match seen.kind {
         Kind::Command => write!(out, ",\"kind\":\"command\"")?,
         Kind::Answer(cc) => write!(out, ",\"kind\":\"answer\",\"command\":\"{cc}\"")?,
-        Kind::Response => write!(out, ",\"kind\":\"response\"")?,
+        Kind::Response | Kind::AnyAnswer => write!(out, ",\"kind\":\"response\"")?,
     }
     if let Some(name) = &seen.name {
         write!(out, ",\"name\":\"{name}\"")?;
@@ -23,6 +23,7 @@ pub fn show(place: Place, seen: &Seen, out: &mut String) -> fmt::Result {
     if let Some(assumed) = &seen.assumed {
         write!(out, ",\"assumed\":\"{assumed}\"")?;
     }
+    seen.notes.iter().try_for_each(|(note, words)| write!(out, ",\"{note}\":\"{words}\""))?;
     write!(out, ",\"passes\":{},\"len\":{}", seen.verdict.is_ok(), seen.bytes.len())?;
     match &seen.verdict {
         Ok(parts) => fields(seen.bytes, parts, out)?,

@@ -2,7 +2,8 @@
 
 use crate::text::count;
 use skeinloft::{
-    Areas, Refusal, ResponseParts, Sessions, TpmCc, TpmCommand, TpmRc, TpmResponse, TpmRh, TpmSt, TpmsAuth,
+    Areas, Reading, Refusal, ResponseParts, Rules, Sessions, TpmCc, TpmCommand, TpmRc, TpmResponse, TpmRh, TpmSt,
+    TpmsAuth,
 };
 use std::borrow::Cow;
 use std::ops::Range;
@@ -13,7 +14,7 @@ pub enum Role {
     Command,
     /// The answer to a command; none where that has no code.
     Answer(Option<TpmCc>),
-    /// A frame of which nothing is known: a command where its code is one, else a response.
+    /// A frame of which nothing is known: a command where its tag and its code may be one's, else a response.
     Alone,
 }
 
@@ -25,9 +26,14 @@ pub struct Seen<'a> {
     pub name: Option<String>,
     /// What had to be assumed, in words.
     pub assumed: Option<Cow<'static, str>>,
+    /// What else there is to say of it.
+    pub notes: &'static [Note],
     /// Its parts in their order, or why it is refused.
     pub verdict: Result<Vec<Part>, Refusal>,
 }
+
+/// Something to say: what it is, and its words.
+pub type Note = (&'static str, &'static str);
 
 #[derive(Clone, Copy, Debug, PartialEq, Eq)]
 pub enum Kind {
@@ -36,6 +42,8 @@ pub enum Kind {
     Answer(TpmCc),
     /// A response to a command that is not known: its header alone is judged.
     Response,
+    /// The same under the tag of the answer to a bad tag, which is judged whole: it answers every command alike.
+    AnyAnswer,
 }
 
 /// A part of a frame.
@@ -59,28 +67,52 @@ pub enum Inside {
 const ALONE_COMMAND: &str = "a command, since it stands alone";
 const ALONE_RESPONSE: &str = "a response, since it stands alone and its code is no command's; \
                               its command is not known (--answers-to), so only its header is judged";
+const ALONE_TAG: &str = "a response, since no command has its tag; which command it answers makes no difference";
 const NO_COMMAND: &str = "a response to a command that is not known, since that has no code; only its header is judged";
+const NO_COMMAND_TAG: &str =
+    "a response to a command that is not known, since that has no code; which one makes no difference";
+
+/// What a TPM answers to a command whose tag it does not understand (Part 2, TPM_ST).
+const BAD_TAG: [u8; 10] = [0x00, 0xC4, 0, 0, 0, 10, 0, 0, 0, 0x1E];
+const ADVICE: Note = (
+    "advice",
+    "the command before it reached the TPM mangled: look at that command's first two bytes as they were sent (8001 or 8002 \
+     is right) and at the link; the TPM is fine and needs no reset",
+);
+const BAD_TAG_PASSES: &[Note] = &[
+    (
+        "meaning",
+        "the TPM's answer to a command whose tag it did not understand; it passes in the standard reading alone",
+    ),
+    ADVICE,
+];
+const BAD_TAG_REFUSED: &[Note] =
+    &[("meaning", "the TPM's answer to a command whose tag it did not understand"), ADVICE];
+const BAD_TAG_HINT: &[Note] = &[("hint", "the standard reading knows this answer: --reading standard")];
 
 /// Looks at a frame.
-pub fn look(bytes: &[u8], role: Role) -> Seen<'_> {
+pub fn look(rules: Rules, bytes: &[u8], role: Role) -> Seen<'_> {
+    let tag = bytes.first_chunk().map(|&field| TpmSt(u16::from_be_bytes(field)));
     match role {
-        Role::Command => command(bytes),
-        Role::Answer(Some(cc)) => answer(bytes, cc),
-        Role::Answer(None) => Seen { assumed: Some(NO_COMMAND.into()), ..response(bytes) },
+        Role::Command => command(rules, bytes),
+        Role::Answer(Some(cc)) => answer(rules, bytes, cc),
+        Role::Answer(None) if tag == Some(TpmSt::RspCommand) => any_answer(rules, bytes, NO_COMMAND_TAG),
+        Role::Answer(None) => response(rules, bytes, NO_COMMAND),
+        Role::Alone if tag == Some(TpmSt::RspCommand) => any_answer(rules, bytes, ALONE_TAG),
         Role::Alone => {
-            let seen = command(bytes);
+            let seen = command(rules, bytes);
             match seen.verdict {
-                Err(Refusal::InvalidCc { .. }) => Seen { assumed: Some(ALONE_RESPONSE.into()), ..response(bytes) },
-                _ => Seen { assumed: Some(alone_command(bytes)), ..seen },
+                Err(Refusal::InvalidCc { .. }) => response(rules, bytes, ALONE_RESPONSE),
+                _ => Seen { assumed: Some(alone_command(rules, bytes)), ..seen },
             }
         }
     }
 }
 
-/// Some codes are a command's and an error's: then the other reading is named.
-fn alone_command(bytes: &[u8]) -> Cow<'static, str> {
+/// Some codes are a command's and an error's: then what else it may be is named.
+fn alone_command(rules: Rules, bytes: &[u8]) -> Cow<'static, str> {
     // which command an error answers makes no difference
-    match TpmResponse::cast(bytes).and_then(|response| response.parts(TpmCc::Startup)) {
+    match TpmResponse::cast(rules, bytes).and_then(|response| response.parts(TpmCc::Startup)) {
         Ok(ResponseParts { rc, .. }) if rc != TpmRc::SUCCESS => {
             format!("{ALONE_COMMAND}; as an answer (--answers-to) it would be the error {rc}").into()
         }
@@ -93,13 +125,13 @@ pub fn code(bytes: &[u8]) -> Option<u32> {
     Some(u32::from_be_bytes(*bytes.get(6..)?.first_chunk()?))
 }
 
-fn command(bytes: &[u8]) -> Seen<'_> {
+fn command(rules: Rules, bytes: &[u8]) -> Seen<'_> {
     let name = code(bytes).and_then(|code| TpmCc(code).name()).map(str::to_owned);
-    Seen { bytes, kind: Kind::Command, name, assumed: None, verdict: command_parts(bytes) }
+    Seen { bytes, kind: Kind::Command, name, assumed: None, notes: &[], verdict: command_parts(rules, bytes) }
 }
 
-fn command_parts(bytes: &[u8]) -> Result<Vec<Part>, Refusal> {
-    let command = TpmCommand::cast(bytes)?;
+fn command_parts(rules: Rules, bytes: &[u8]) -> Result<Vec<Part>, Refusal> {
+    let command = TpmCommand::cast(rules, bytes)?;
     let (all, areas) = (command.parts()?, command.areas()?);
     let Areas { handles, auth_area, parameters, .. } = areas;
     let mut parts = header(all.tag, bytes.len(), all.cc.to_string());
@@ -112,17 +144,31 @@ fn command_parts(bytes: &[u8]) -> Result<Vec<Part>, Refusal> {
     Ok(parts)
 }
 
-/// The name of a response code that reads.
-fn rc_name(bytes: &[u8]) -> Option<String> {
-    TpmRc::try_from(code(bytes)?).ok().map(|rc| rc.to_string())
+/// A response of some kind, with the name of its code where that reads, and what there is to say of it.
+fn any_response(rules: Rules, bytes: &[u8], kind: Kind, verdict: Result<Vec<Part>, Refusal>) -> Seen<'_> {
+    let name = code(bytes).and_then(|code| TpmRc::try_from(code).ok()).map(|rc| rc.to_string());
+    let notes = match (rules.reading, &verdict) {
+        _ if bytes != BAD_TAG => &[],
+        (Reading::Standard, Ok(_)) => BAD_TAG_PASSES,
+        // the command has no row
+        (Reading::Standard, Err(_)) => BAD_TAG_REFUSED,
+        (Reading::Rust, _) => BAD_TAG_HINT,
+    };
+    Seen { bytes, kind, name, assumed: None, notes, verdict }
 }
 
-fn answer(bytes: &[u8], cc: TpmCc) -> Seen<'_> {
-    Seen { bytes, kind: Kind::Answer(cc), name: rc_name(bytes), assumed: None, verdict: answer_parts(bytes, cc) }
+fn answer(rules: Rules, bytes: &[u8], cc: TpmCc) -> Seen<'_> {
+    any_response(rules, bytes, Kind::Answer(cc), answer_parts(rules, bytes, cc))
 }
 
-fn answer_parts(bytes: &[u8], cc: TpmCc) -> Result<Vec<Part>, Refusal> {
-    let response = TpmResponse::cast(bytes)?;
+/// A response that answers one command as it does any other.
+fn any_answer<'a>(rules: Rules, bytes: &'a [u8], assumed: &'static str) -> Seen<'a> {
+    let verdict = answer_parts(rules, bytes, TpmCc::Startup);
+    Seen { assumed: Some(assumed.into()), ..any_response(rules, bytes, Kind::AnyAnswer, verdict) }
+}
+
+fn answer_parts(rules: Rules, bytes: &[u8], cc: TpmCc) -> Result<Vec<Part>, Refusal> {
+    let response = TpmResponse::cast(rules, bytes)?;
     let (all, areas, tag) = (response.parts(cc)?, response.areas(cc)?, response.tag()?);
     let Areas { handles, auth_area, parameters, .. } = areas;
     let mut parts = header(tag, bytes.len(), all.rc.to_string());
@@ -141,14 +187,14 @@ fn answer_parts(bytes: &[u8], cc: TpmCc) -> Result<Vec<Part>, Refusal> {
 }
 
 /// A response of which the header alone is judged.
-fn response(bytes: &[u8]) -> Seen<'_> {
+fn response<'a>(rules: Rules, bytes: &'a [u8], assumed: &'static str) -> Seen<'a> {
     let parts = || {
-        let response = TpmResponse::cast(bytes)?;
+        let response = TpmResponse::cast(rules, bytes)?;
         let mut parts = header(response.tag()?, bytes.len(), response.rc()?.to_string());
         parts.push(plain("body", 10..bytes.len()));
         Ok(parts)
     };
-    Seen { bytes, kind: Kind::Response, name: rc_name(bytes), assumed: None, verdict: parts() }
+    Seen { assumed: Some(assumed.into()), ..any_response(rules, bytes, Kind::Response, parts()) }
 }
 
 fn header(tag: TpmSt, len: usize, code: String) -> Vec<Part> {

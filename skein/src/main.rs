@@ -12,6 +12,7 @@ use args::{Asked, Inspect};
 use input::{Place, Stop, Taker};
 use look::Role;
 use progress::Progress;
+use skeinloft::Rules;
 use std::fs::File;
 use std::io::{self, BufReader, BufWriter, ErrorKind, Read, Write};
 use std::path::Path;
@@ -66,6 +67,7 @@ fn inspect(asked: &Inspect) -> u8 {
     let out = BufWriter::with_capacity(1 << 16, io::stdout().lock());
     let mut show = Show {
         json: asked.json,
+        rules: asked.rules,
         name,
         shown: String::new(),
         out,
@@ -92,6 +94,7 @@ struct Count {
 /// Shows each frame as it comes.
 struct Show<W: Write> {
     json: bool,
+    rules: Rules,
     name: String,
     /// The frame at hand, as it is shown.
     shown: String,
@@ -102,7 +105,7 @@ struct Show<W: Write> {
 
 impl<W: Write> Taker for Show<W> {
     fn frame(&mut self, place: Place, bytes: &[u8], role: Role) -> io::Result<()> {
-        let seen = look::look(bytes, role);
+        let seen = look::look(self.rules, bytes, role);
         self.count.frames += 1;
         self.count.refused += u64::from(seen.verdict.is_err());
         self.shown.clear();

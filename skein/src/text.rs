@@ -14,6 +14,7 @@ pub fn show(place: Place, seen: &Seen, out: &mut String) -> fmt::Result {
     if let Some(assumed) = &seen.assumed {
         writeln!(out, "  assumed: {assumed}")?;
     }
+    seen.notes.iter().try_for_each(|(note, words)| writeln!(out, "  {note}: {words}"))?;
     match &seen.verdict {
         Ok(parts) => parts.iter().try_for_each(|part| show_part(seen.bytes, part, 0, 0, out))?,
         Err(refusal) => show_refusal(seen, refusal, out)?,
@@ -26,7 +27,7 @@ fn title(place: Place, seen: &Seen, out: &mut String) -> fmt::Result {
     let kind = match seen.kind {
         Kind::Command => "command",
         Kind::Answer(_) => "answer",
-        Kind::Response => "response",
+        Kind::Response | Kind::AnyAnswer => "response",
     };
     write!(out, "{place}: {kind}")?;
     if let Some(name) = &seen.name {

@@ -1,4 +1,5 @@
-//! `skein inspect` on recorded and published frames: each has the verdict of the library, which is asked here by its calls.
+//! `skein inspect` on recorded and published frames: each has the verdict of the library, which is asked here by its calls, in
+//! both readings.
 //! The frames are those that the comparison keeps, and where there are any those that SKEIN_TRAFFIC names, else those of
 //! ../shared/facts beside the repository.
 
@@ -17,9 +18,15 @@ const KEPT: &str = concat!(env!("CARGO_MANIFEST_DIR"), "/../compare/src/frame/re
 /// What is said of a frame: 0 where it passes, else the refusal's number, and the fields.
 type Said = (u64, Vec<u64>);
 
-fn skein() -> Command {
+/// The numbers of the rules, and the words that `skein` takes for them.
+const READINGS: [(u32, &[&str]); 2] = [(calls::STANDARD, &[]), (calls::RUST, &["--reading", "rust"])];
+
+/// Some command that has a row: TPM2_Startup.
+const SOME: u32 = 0x144;
+
+fn skein(words: &[&str]) -> Command {
     let mut command = Command::new(env!("CARGO_BIN_EXE_skein"));
-    command.args(["inspect", "--json"]);
+    command.args(["inspect", "--json"]).args(words);
     command
 }
 
@@ -53,17 +60,18 @@ fn unhex(text: &str) -> Vec<u8> {
     digits.map(|pair| u8::from_str_radix(pair, 16).expect("hexadecimal")).collect()
 }
 
-/// What the library says of a line: of the command, and of its answer.
-fn pair(line: &str) -> [Said; 2] {
+/// What the library says of a line by these rules: of the command, and of its answer.
+fn pair(rules: u32, line: &str) -> [Said; 2] {
     let (command, answer) = line.split_once(' ').expect("a command and its answer");
     let (command, answer) = (unhex(command), unhex(answer));
-    // without a code the header alone is judged
+    // without a code the header alone is judged, but under the tag of the answer to a bad tag all, as an answer to some command
     let code = command.get(6..10).map(|field| u32::from_be_bytes(field.try_into().expect("four bytes")));
+    let code = code.or(answer.starts_with(&[0x00, 0xC4]).then_some(SOME));
     let judged = |out: &mut _| match code {
-        Some(cc) => calls::response_validate(cc, &answer, out),
-        None => calls::response_cast(&answer, out),
+        Some(cc) => calls::response_validate(rules, cc, &answer, out),
+        None => calls::response_cast(rules, &answer, out),
     };
-    [said(|out| calls::command_validate(&command, out)), said(judged)]
+    [said(|out| calls::command_validate(rules, &command, out)), said(judged)]
 }
 
 /// The folder of recorded frames, if there is one.
@@ -77,11 +85,16 @@ fn facts() -> Option<PathBuf> {
     Some(folder)
 }
 
-/// Holds `skein` to the library on a file of pairs, and tells how many frames it has.
+/// Holds `skein` to the library on a file of pairs, in both readings, and tells how many frames it has.
 fn check(file: &Path) -> usize {
+    let [frames, _] = READINGS.map(|(rules, words)| check_by(rules, words, file));
+    frames
+}
+
+fn check_by(rules: u32, words: &[&str], file: &Path) -> usize {
     let text = std::fs::read_to_string(file).expect("a file of frames");
-    let theirs: Vec<Said> = text.lines().flat_map(pair).collect();
-    let run = skein().arg(file).output().expect("skein runs");
+    let theirs: Vec<Said> = text.lines().flat_map(|line| pair(rules, line)).collect();
+    let run = skein(words).arg(file).output().expect("skein runs");
     let ours = told(&run.stdout);
     assert_eq!(ours.len(), theirs.len(), "{}", file.display());
     for (place, (ours, theirs)) in ours.iter().zip(&theirs).enumerate() {
@@ -115,29 +128,60 @@ fn recorded_frames() {
 fn published_frames() {
     let Some(facts) = facts() else { return };
     let text = std::fs::read_to_string(facts.join("published-frames.csv")).expect("a table of frames");
+    let mut frames = 0;
     for row in text.lines().skip(1) {
-        let [kind, hex, rest] = row.splitn(3, ',').collect::<Vec<_>>()[..] else {
-            panic!("three columns or more: {row}")
-        };
-        let bytes = unhex(hex);
-        let mut command = skein();
-        let theirs = if kind.ends_with("command") {
-            match said(|out| calls::command_validate(&bytes, out)) {
-                // no command by its code
-                (4, _) => said(|out| calls::response_cast(&bytes, out)),
-                said => said,
-            }
-        } else {
-            let named = rest.split_once("for ").and_then(|(_, behind)| behind.split_once("0x"));
-            let digits = named
-                .map_or("0", |(_, behind)| behind.split(|mark: char| !mark.is_ascii_hexdigit()).next().unwrap_or("0"));
-            command.args(["--answers-to", &format!("0x{digits}")]);
-            let cc = u32::from_str_radix(digits, 16).expect("a code");
-            said(|out| calls::response_validate(cc, &bytes, out))
-        };
-        let mut run = command.stdin(Stdio::piped()).stdout(Stdio::piped()).spawn().expect("skein runs");
-        run.stdin.take().expect("a pipe").write_all(hex.as_bytes()).expect("skein reads");
-        let run = run.wait_with_output().expect("skein ends");
-        assert_eq!(told(&run.stdout), [theirs], "{row}");
+        READINGS.iter().for_each(|&(rules, words)| check_row(rules, words, row));
+        frames += 1;
+    }
+    println!("{frames} published frames");
+    assert!(frames > 0);
+}
+
+fn check_row(rules: u32, words: &[&str], row: &str) {
+    let [kind, hex, rest] = row.splitn(3, ',').collect::<Vec<_>>()[..] else { panic!("three columns or more: {row}") };
+    let bytes = unhex(hex);
+    let mut command = skein(words);
+    let theirs = if kind.ends_with("command") {
+        match said(|out| calls::command_validate(rules, &bytes, out)) {
+            // no command by its code
+            (4, _) => said(|out| calls::response_cast(rules, &bytes, out)),
+            said => said,
+        }
+    } else {
+        let named = rest.split_once("for ").and_then(|(_, behind)| behind.split_once("0x"));
+        let digits =
+            named.map_or("0", |(_, behind)| behind.split(|mark: char| !mark.is_ascii_hexdigit()).next().unwrap_or("0"));
+        command.args(["--answers-to", &format!("0x{digits}")]);
+        let cc = u32::from_str_radix(digits, 16).expect("a code");
+        said(|out| calls::response_validate(rules, cc, &bytes, out))
+    };
+    assert_eq!(shown(command, hex), [theirs], "{row}");
+}
+
+/// What `skein` tells of frames on its standard input.
+fn shown(mut command: Command, hex: &str) -> Vec<Said> {
+    let mut run = command.stdin(Stdio::piped()).stdout(Stdio::piped()).spawn().expect("skein runs");
+    let mut input = run.stdin.take().expect("a pipe");
+    // it writes before it has read all
+    let run = std::thread::scope(|both| {
+        both.spawn(move || input.write_all(hex.as_bytes()).expect("skein reads"));
+        run.wait_with_output().expect("skein ends")
+    });
+    told(&run.stdout)
+}
+
+/// Frames that stand alone under the tag of the answer to a bad tag are judged whole, as answers to some command.
+#[test]
+fn under_the_tag_of_the_answer_to_a_bad_tag() {
+    let codes = (0..0x1000u32).chain([0x1_001E, u32::MAX]);
+    let frame = |code| ["", "00"].map(|behind| format!("00c4{:08x}{code:08x}{behind}", 10 + behind.len() / 2));
+    let frames: Vec<String> = codes.flat_map(frame).collect();
+    for (rules, words) in READINGS {
+        let judged = |hex: &String| said(|out| calls::response_validate(rules, SOME, &unhex(hex), out));
+        let theirs: Vec<Said> = frames.iter().map(judged).collect();
+        let passing = theirs.iter().zip(&frames).filter(|((number, _), _)| *number == 0).map(|(_, hex)| hex.as_str());
+        let due: &[&str] = if rules == calls::STANDARD { &["00c40000000a0000001e"] } else { &[] };
+        assert!(passing.eq(due.iter().copied()));
+        assert_eq!(shown(skein(words), &frames.join("\n")), theirs);
     }
 }

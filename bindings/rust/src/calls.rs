@@ -11,6 +11,11 @@ pub type Out = [u64; 8];
 /// The place of a refusal's first field in the array; the others follow it.
 pub const OFFSET: usize = 4;
 
+/// The numbers of the rules by which a call judges; the third is for the writers of responses alone.
+pub const RUST: u32 = 0;
+pub const STANDARD: u32 = 1;
+pub const STANDARD_BAD_TAG: u32 = 2;
+
 /// A part of a frame, by its start and its end.
 #[repr(C)]
 #[derive(Clone, Copy, Debug, Default, PartialEq, Eq)]
@@ -154,20 +159,20 @@ calls! {
     pub fn frame_len([s: &[u8]]);
     pub fn frame_is_empty([s: &[u8]]);
 
-    pub fn command_cast([s: &[u8]]);
-    pub fn command_cast_prefix([s: &[u8]]);
-    pub fn command_validate([s: &[u8]]);
-    pub fn command_cc([s: &[u8]]);
-    pub fn command_set_cc(cc: u32, [s: &mut [u8]]);
-    pub fn command_handles([s: &[u8]]);
-    pub fn command_auth_area([s: &[u8]]);
-    pub fn command_parameters([s: &[u8]]);
+    pub fn command_cast(rules: u32, [s: &[u8]]);
+    pub fn command_cast_prefix(rules: u32, [s: &[u8]]);
+    pub fn command_validate(rules: u32, [s: &[u8]]);
+    pub fn command_cc(rules: u32, [s: &[u8]]);
+    pub fn command_set_cc(rules: u32, cc: u32, [s: &mut [u8]]);
+    pub fn command_handles(rules: u32, [s: &[u8]]);
+    pub fn command_auth_area(rules: u32, [s: &[u8]]);
+    pub fn command_parameters(rules: u32, [s: &[u8]]);
 
-    pub fn response_cast([s: &[u8]]);
-    pub fn response_cast_prefix([s: &[u8]]);
-    pub fn response_validate(cc: u32, [s: &[u8]]);
-    pub fn response_rc([s: &[u8]]);
-    pub fn response_set_rc(rc: u32, [s: &mut [u8]]);
+    pub fn response_cast(rules: u32, [s: &[u8]]);
+    pub fn response_cast_prefix(rules: u32, [s: &[u8]]);
+    pub fn response_validate(rules: u32, cc: u32, [s: &[u8]]);
+    pub fn response_rc(rules: u32, [s: &[u8]]);
+    pub fn response_set_rc(rules: u32, rc: u32, [s: &mut [u8]]);
     pub fn response_body([s: &[u8]]);
 }
 
@@ -176,13 +181,13 @@ calls! {
 /// Makes a safe function of a call that gives all parts.
 macro_rules! parts {
     ($($name:ident = $call:ident($($before:ident: $b:ty)?);)*) => {$(
-        pub fn $name($($before: $b,)? s: &[u8], out: &mut Out) -> Parts {
+        pub fn $name(rules: u32, $($before: $b,)? s: &[u8], out: &mut Out) -> Parts {
             unsafe extern "C" {
-                fn $call($($before: $b,)? s: *const u8, len: usize, out: &mut Out) -> Parts;
+                fn $call(rules: u32, $($before: $b,)? s: *const u8, len: usize, out: &mut Out) -> Parts;
             }
             let (start, len) = s.lent();
             // SAFETY: as above.
-            unsafe { $call($($before,)? start, len, out) }
+            unsafe { $call(rules, $($before,)? start, len, out) }
         }
     )*};
 }
@@ -192,15 +197,16 @@ parts! {
     response_parts = skein_response_parts(cc: u32);
 }
 
-/// Makes a safe function of a writer, which takes a number and the command's code before what it is handed; behind `as` is
+/// Makes a safe function of a writer, which takes its rules, a number and the command's code before what it is handed; behind `as` is
 /// how C takes the sessions.
 macro_rules! writers {
     ($($name:ident = $call:ident(
         $number:ident: $n:ty, $sessions:ident: $s:ty as $($passed:ident: $p:ty = $value:expr),+
     );)*) => {$(
-        pub fn $name($number: $n, cc: u32, given: Handed<$s>, room: &mut [u8], out: &mut Out) -> u32 {
+        pub fn $name(rules: u32, $number: $n, cc: u32, given: Handed<$s>, room: &mut [u8], out: &mut Out) -> u32 {
             unsafe extern "C" {
                 fn $call(
+                    rules: u32,
                     $number: $n,
                     cc: u32,
                     handles: *const u8,
@@ -219,7 +225,7 @@ macro_rules! writers {
             let ((handles, h), (lent, l), (parameters, p)) = (handles.lent(), lent.lent(), parameters.lent());
             let (room, r) = room.lent();
             // SAFETY: as above.
-            unsafe { $call($number, cc, handles, h, $($value,)+ lent, l, parameters, p, room, r, out) }
+            unsafe { $call(rules, $number, cc, handles, h, $($value,)+ lent, l, parameters, p, room, r, out) }
         }
     )*};
 }

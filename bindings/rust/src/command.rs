@@ -3,6 +3,7 @@
 use crate::calls;
 use crate::cc::TpmCc;
 use crate::refusal::Refusal;
+use crate::rules::Rules;
 use crate::session::Sessions;
 use crate::st::TpmSt;
 use crate::view::{Areas, ask, ask_parts, ask_split, ask_tag, part};
@@ -12,34 +13,37 @@ use crate::view::{Areas, ask, ask_parts, ask_split, ask_tag, part};
 /// Every answer is one call of the proved library.
 ///
 /// ```
-/// use skeinloft::{TpmCc, TpmCommand};
+/// use skeinloft::{Rules, TpmCc, TpmCommand};
 ///
-/// let startup = TpmCommand::cast(&[0x80, 0x01, 0, 0, 0, 12, 0, 0, 0x01, 0x44, 0, 0])?;
+/// let startup = TpmCommand::cast(Rules::STANDARD, &[0x80, 0x01, 0, 0, 0, 12, 0, 0, 0x01, 0x44, 0, 0])?;
 /// startup.validate()?;
 /// assert_eq!(startup.cc()?, TpmCc::Startup);
 /// assert_eq!(startup.parameters()?, [0, 0]);
 /// # Ok::<(), skeinloft::Refusal>(())
 /// ```
 #[derive(Clone, Copy, Debug, PartialEq, Eq, Hash)]
-pub struct TpmCommand<'a>(&'a [u8]);
+pub struct TpmCommand<'a> {
+    rules: Rules,
+    bytes: &'a [u8],
+}
 
 impl<'a> TpmCommand<'a> {
     /// Checks all of a command but the entries of its authorization area.
     ///
     /// # Errors
     ///
-    /// The first of: bytes that are not as many as the size field says, a tag that is neither of the two, a command code
+    /// The first of: bytes that are not as many as the size field says, a tag that is no command's, a command code
     /// that is none, handles or an authorization area that are cut short.
     ///
     /// ```
-    /// use skeinloft::{Refusal, TpmCommand};
+    /// use skeinloft::{Refusal, Rules, TpmCommand};
     ///
-    /// let refusal = TpmCommand::cast(&[0x80, 0x01, 0, 0, 0, 11, 0, 0, 0x01, 0x44, 0, 0]).unwrap_err();
+    /// let refusal = TpmCommand::cast(Rules::STANDARD, &[0x80, 0x01, 0, 0, 0, 11, 0, 0, 0x01, 0x44, 0, 0]).unwrap_err();
     /// assert_eq!(refusal, Refusal::TrailingData { offset: 11, actual: 1 });
     /// ```
-    pub fn cast(bytes: &'a [u8]) -> Result<Self, Refusal> {
-        ask(|out| calls::command_cast(bytes, out))?;
-        Ok(Self(bytes))
+    pub fn cast(rules: Rules, bytes: &'a [u8]) -> Result<Self, Refusal> {
+        ask(|out| calls::command_cast(rules.number(), bytes, out))?;
+        Ok(Self { rules, bytes })
     }
 
     /// The same of a command at the start of the bytes; what is behind it comes too.
@@ -49,28 +53,42 @@ impl<'a> TpmCommand<'a> {
     /// As [`cast`](Self::cast), but for bytes behind the command.
     ///
     /// ```
-    /// use skeinloft::TpmCommand;
+    /// use skeinloft::{Rules, TpmCommand};
     ///
     /// let bytes = [0x80, 0x01, 0, 0, 0, 10, 0, 0, 0x01, 0x7C, 0x80, 0x01];
-    /// let (command, behind) = TpmCommand::cast_prefix(&bytes)?;
+    /// let (command, behind) = TpmCommand::cast_prefix(Rules::STANDARD, &bytes)?;
     /// assert_eq!(command.as_bytes().len(), 10);
     /// assert_eq!(behind, [0x80, 0x01]);
     /// # Ok::<(), skeinloft::Refusal>(())
     /// ```
-    pub fn cast_prefix(bytes: &'a [u8]) -> Result<(Self, &'a [u8]), Refusal> {
-        ask_split(bytes, calls::command_cast_prefix).map(|(frame, tail)| (Self(frame), tail))
+    pub fn cast_prefix(rules: Rules, bytes: &'a [u8]) -> Result<(Self, &'a [u8]), Refusal> {
+        let (bytes, tail) = ask_split(rules.number(), bytes, calls::command_cast_prefix)?;
+        Ok((Self { rules, bytes }, tail))
     }
 
     /// The bytes of the whole frame.
     ///
     /// ```
     /// let bytes = [0x80, 0x01, 0, 0, 0, 10, 0, 0, 0x01, 0x7C];
-    /// assert_eq!(skeinloft::TpmCommand::cast(&bytes)?.as_bytes(), bytes);
+    /// assert_eq!(skeinloft::TpmCommand::cast(skeinloft::Rules::STANDARD, &bytes)?.as_bytes(), bytes);
     /// # Ok::<(), skeinloft::Refusal>(())
     /// ```
     #[must_use]
     pub const fn as_bytes(&self) -> &'a [u8] {
-        self.0
+        self.bytes
+    }
+
+    /// The rules that it was cast by, which go on to judge it.
+    ///
+    /// ```
+    /// use skeinloft::{Rules, TpmCommand};
+    ///
+    /// assert_eq!(TpmCommand::cast(Rules::RUST, &[0x80, 0x01, 0, 0, 0, 10, 0, 0, 0x01, 0x7C])?.rules(), Rules::RUST);
+    /// # Ok::<(), skeinloft::Refusal>(())
+    /// ```
+    #[must_use]
+    pub const fn rules(&self) -> Rules {
+        self.rules
     }
 
     /// The tag.
@@ -80,14 +98,14 @@ impl<'a> TpmCommand<'a> {
     /// None for a frame that was cast.
     ///
     /// ```
-    /// use skeinloft::{TpmCommand, TpmSt};
+    /// use skeinloft::{Rules, TpmCommand, TpmSt};
     ///
-    /// let command = TpmCommand::cast(&[0x80, 0x01, 0, 0, 0, 10, 0, 0, 0x01, 0x7C])?;
+    /// let command = TpmCommand::cast(Rules::STANDARD, &[0x80, 0x01, 0, 0, 0, 10, 0, 0, 0x01, 0x7C])?;
     /// assert_eq!(command.tag()?, TpmSt::NoSessions);
     /// # Ok::<(), skeinloft::Refusal>(())
     /// ```
     pub fn tag(&self) -> Result<TpmSt, Refusal> {
-        ask_tag(self.0)
+        ask_tag(self.bytes)
     }
 
     /// The command code.
@@ -97,14 +115,14 @@ impl<'a> TpmCommand<'a> {
     /// None for a frame that was cast.
     ///
     /// ```
-    /// use skeinloft::{TpmCc, TpmCommand};
+    /// use skeinloft::{Rules, TpmCc, TpmCommand};
     ///
-    /// let command = TpmCommand::cast(&[0x80, 0x01, 0, 0, 0, 10, 0, 0, 0x01, 0x7C])?;
+    /// let command = TpmCommand::cast(Rules::STANDARD, &[0x80, 0x01, 0, 0, 0, 10, 0, 0, 0x01, 0x7C])?;
     /// assert_eq!(command.cc()?, TpmCc::GetTestResult);
     /// # Ok::<(), skeinloft::Refusal>(())
     /// ```
     pub fn cc(&self) -> Result<TpmCc, Refusal> {
-        let [cc, ..] = ask(|out| calls::command_cc(self.0, out))?;
+        let [cc, ..] = ask(|out| calls::command_cc(self.rules.number(), self.bytes, out))?;
         Ok(TpmCc(cc as u32))
     }
 
@@ -115,14 +133,14 @@ impl<'a> TpmCommand<'a> {
     /// None for a frame that was cast.
     ///
     /// ```
-    /// use skeinloft::TpmCommand;
+    /// use skeinloft::{Rules, TpmCommand};
     ///
-    /// let command = TpmCommand::cast(&[0x80, 0x01, 0, 0, 0, 14, 0, 0, 0x01, 0x73, 0x81, 0, 0, 1])?;
+    /// let command = TpmCommand::cast(Rules::STANDARD, &[0x80, 0x01, 0, 0, 0, 14, 0, 0, 0x01, 0x73, 0x81, 0, 0, 1])?;
     /// assert_eq!(command.handles()?, [0x81, 0, 0, 1]);
     /// # Ok::<(), skeinloft::Refusal>(())
     /// ```
     pub fn handles(&self) -> Result<&'a [u8], Refusal> {
-        ask_split(self.0, calls::command_handles).map(|(area, _)| area)
+        ask_split(self.rules.number(), self.bytes, calls::command_handles).map(|(area, _)| area)
     }
 
     /// The entries of the authorization area, without the size before them; empty under the plain tag.
@@ -132,16 +150,16 @@ impl<'a> TpmCommand<'a> {
     /// None for a frame that was cast.
     ///
     /// ```
-    /// use skeinloft::TpmCommand;
+    /// use skeinloft::{Rules, TpmCommand};
     ///
     /// let bytes = [
     ///     0x80, 0x02, 0, 0, 0, 25, 0, 0, 0x01, 0x7B, 0, 0, 0, 9, 0x40, 0, 0, 9, 0, 0, 0, 0, 0, 0, 8,
     /// ];
-    /// assert_eq!(TpmCommand::cast(&bytes)?.auth_area()?, [0x40, 0, 0, 9, 0, 0, 0, 0, 0]);
+    /// assert_eq!(TpmCommand::cast(Rules::STANDARD, &bytes)?.auth_area()?, [0x40, 0, 0, 9, 0, 0, 0, 0, 0]);
     /// # Ok::<(), skeinloft::Refusal>(())
     /// ```
     pub fn auth_area(&self) -> Result<&'a [u8], Refusal> {
-        ask_split(self.0, calls::command_auth_area).map(|(area, _)| area)
+        ask_split(self.rules.number(), self.bytes, calls::command_auth_area).map(|(area, _)| area)
     }
 
     /// The parameters.
@@ -151,14 +169,14 @@ impl<'a> TpmCommand<'a> {
     /// None for a frame that was cast.
     ///
     /// ```
-    /// use skeinloft::TpmCommand;
+    /// use skeinloft::{Rules, TpmCommand};
     ///
-    /// let command = TpmCommand::cast(&[0x80, 0x01, 0, 0, 0, 12, 0, 0, 0x01, 0x7B, 0, 32])?;
+    /// let command = TpmCommand::cast(Rules::STANDARD, &[0x80, 0x01, 0, 0, 0, 12, 0, 0, 0x01, 0x7B, 0, 32])?;
     /// assert_eq!(command.parameters()?, [0, 32]);
     /// # Ok::<(), skeinloft::Refusal>(())
     /// ```
     pub fn parameters(&self) -> Result<&'a [u8], Refusal> {
-        ask_split(self.0, calls::command_parameters).map(|(area, _)| area)
+        ask_split(self.rules.number(), self.bytes, calls::command_parameters).map(|(area, _)| area)
     }
 
     /// Checks the command whole, with the entries of its authorization area.
@@ -168,16 +186,16 @@ impl<'a> TpmCommand<'a> {
     /// A fourth entry, or an entry that is cut short.
     ///
     /// ```
-    /// use skeinloft::{Refusal, TpmCommand};
+    /// use skeinloft::{Refusal, Rules, TpmCommand};
     ///
     /// // the HMAC of the entry has no size
     /// let bytes = [0x80, 0x02, 0, 0, 0, 23, 0, 0, 0x01, 0x7B, 0, 0, 0, 7, 0x40, 0, 0, 9, 0, 0, 0, 0, 8];
-    /// let refusal = TpmCommand::cast(&bytes)?.validate().unwrap_err();
+    /// let refusal = TpmCommand::cast(Rules::STANDARD, &bytes)?.validate().unwrap_err();
     /// assert_eq!(refusal, Refusal::UnexpectedEnd { offset: 21, needed: 2, available: 0 });
     /// # Ok::<(), Refusal>(())
     /// ```
     pub fn validate(&self) -> Result<(), Refusal> {
-        ask(|out| calls::command_validate(self.0, out)).map(|_| ())
+        ask(|out| calls::command_validate(self.rules.number(), self.bytes, out)).map(|_| ())
     }
 
     /// Checks the command whole, and gives all its parts.
@@ -187,24 +205,24 @@ impl<'a> TpmCommand<'a> {
     /// As [`validate`](Self::validate).
     ///
     /// ```
-    /// use skeinloft::TpmCommand;
+    /// use skeinloft::{Rules, TpmCommand};
     ///
     /// let bytes = [
     ///     0x80, 0x02, 0, 0, 0, 25, 0, 0, 0x01, 0x7B, 0, 0, 0, 9, 0x40, 0, 0, 9, 0, 0, 0, 0, 0, 0, 8,
     /// ];
-    /// let parts = TpmCommand::cast(&bytes)?.parts()?;
+    /// let parts = TpmCommand::cast(Rules::STANDARD, &bytes)?.parts()?;
     /// assert_eq!(parts.sessions.iter().next().unwrap().session_handle, 0x4000_0009);
     /// assert_eq!(parts.parameters, [0, 8]);
     /// # Ok::<(), skeinloft::Refusal>(())
     /// ```
     pub fn parts(&self) -> Result<CommandParts<'a>, Refusal> {
-        let frame = ask_parts(|out| calls::command_parts(self.0, out))?;
+        let frame = ask_parts(|out| calls::command_parts(self.rules.number(), self.bytes, out))?;
         Ok(CommandParts {
             tag: TpmSt(frame.tag),
             cc: TpmCc(frame.code),
-            handles: part(self.0, frame.handles),
-            sessions: Sessions { record: frame.sessions, lent: self.0 },
-            parameters: part(self.0, frame.parameters),
+            handles: part(self.bytes, frame.handles),
+            sessions: Sessions { record: frame.sessions, lent: self.bytes },
+            parameters: part(self.bytes, frame.parameters),
         })
     }
 
@@ -215,27 +233,27 @@ impl<'a> TpmCommand<'a> {
     /// As [`validate`](Self::validate).
     ///
     /// ```
-    /// use skeinloft::TpmCommand;
+    /// use skeinloft::{Rules, TpmCommand};
     ///
-    /// let command = TpmCommand::cast(&[0x80, 0x01, 0, 0, 0, 12, 0, 0, 0x01, 0x7B, 0, 32])?;
+    /// let command = TpmCommand::cast(Rules::STANDARD, &[0x80, 0x01, 0, 0, 0, 12, 0, 0, 0x01, 0x7B, 0, 32])?;
     /// assert_eq!(command.areas()?.parameters, 10..12);
     /// # Ok::<(), skeinloft::Refusal>(())
     /// ```
     pub fn areas(&self) -> Result<Areas, Refusal> {
-        ask_parts(|out| calls::command_parts(self.0, out)).map(Areas::from)
+        ask_parts(|out| calls::command_parts(self.rules.number(), self.bytes, out)).map(Areas::from)
     }
 }
 
 impl AsRef<[u8]> for TpmCommand<'_> {
     fn as_ref(&self) -> &[u8] {
-        self.0
+        self.bytes
     }
 }
 
 /// The parts of a command: those that were read, or those to be written.
 ///
 /// ```
-/// use skeinloft::{CommandParts, Sessions, TpmCc, TpmCommand, TpmSt};
+/// use skeinloft::{CommandParts, Rules, Sessions, TpmCc, TpmCommand, TpmSt};
 ///
 /// let startup = CommandParts {
 ///     tag: TpmSt::NoSessions,
@@ -245,8 +263,8 @@ impl AsRef<[u8]> for TpmCommand<'_> {
 ///     parameters: &[0, 0],
 /// };
 /// let mut room = [0; 64];
-/// let len = startup.marshal(&mut room)?;
-/// assert_eq!(TpmCommand::cast(&room[..len])?.parts()?, startup);
+/// let len = startup.marshal(Rules::STANDARD, &mut room)?;
+/// assert_eq!(TpmCommand::cast(Rules::STANDARD, &room[..len])?.parts()?, startup);
 /// # Ok::<(), skeinloft::Refusal>(())
 /// ```
 #[derive(Clone, Copy, Debug, PartialEq, Eq)]
@@ -268,27 +286,27 @@ impl CommandParts<'_> {
     ///
     /// # Errors
     ///
-    /// The first of: a tag that is neither of the two or does not go with the sessions, more than three sessions, a command
+    /// The first of: a tag that is no command's or does not go with the sessions, more than three sessions, a command
     /// code that is none, handles that are not the command's in number, more bytes than a frame's size can say, room that is
     /// too short. The room is then as it was.
     ///
     /// ```
-    /// use skeinloft::{Refusal, TpmCommand};
+    /// use skeinloft::{Refusal, Rules, TpmCommand};
     ///
     /// let bytes = [0x80, 0x01, 0, 0, 0, 12, 0, 0, 0x01, 0x44, 0, 0];
-    /// let parts = TpmCommand::cast(&bytes)?.parts()?;
+    /// let parts = TpmCommand::cast(Rules::STANDARD, &bytes)?.parts()?;
     /// let mut room = [0; 12];
-    /// assert_eq!(parts.marshal(&mut room)?, 12);
+    /// assert_eq!(parts.marshal(Rules::STANDARD, &mut room)?, 12);
     /// assert_eq!(room, bytes);
     ///
-    /// let refusal = parts.marshal(&mut room[1..]).unwrap_err();
+    /// let refusal = parts.marshal(Rules::STANDARD, &mut room[1..]).unwrap_err();
     /// assert_eq!(refusal, Refusal::BufferOverflow { offset: 0, needed: 12, available: 11 });
     /// # Ok::<(), Refusal>(())
     /// ```
     #[doc(alias = "tpm_marshal_command")]
-    pub fn marshal(&self, room: &mut [u8]) -> Result<usize, Refusal> {
+    pub fn marshal(&self, rules: Rules, room: &mut [u8]) -> Result<usize, Refusal> {
         let handed = self.sessions.handed(self.handles, self.parameters);
-        let [len, ..] = ask(|out| calls::command_write(self.tag.0, self.cc.0, handed, room, out))?;
+        let [len, ..] = ask(|out| calls::command_write(rules.number(), self.tag.0, self.cc.0, handed, room, out))?;
         Ok(len as usize)
     }
 }

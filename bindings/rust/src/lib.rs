@@ -11,15 +11,18 @@
 //!
 //! # Reading
 //!
-//! ```
-//! use skeinloft::{Refusal, TpmCc, TpmCommand, TpmResponse};
+//! Every call that judges a frame takes [`Rules`] first, and a view keeps them: [`Rules::STANDARD`], or [`Rules::RUST`] to
+//! answer as software that runs tpm2-protocol does.
 //!
-//! let command = TpmCommand::cast(&[0x80, 0x01, 0, 0, 0, 12, 0, 0, 0x01, 0x7B, 0, 2])?;
+//! ```
+//! use skeinloft::{Refusal, Rules, TpmCc, TpmCommand, TpmResponse};
+//!
+//! let command = TpmCommand::cast(Rules::STANDARD, &[0x80, 0x01, 0, 0, 0, 12, 0, 0, 0x01, 0x7B, 0, 2])?;
 //! let cc = command.parts()?.cc;
 //! assert_eq!(cc, TpmCc::GetRandom);
 //!
 //! // a response is judged for the command that it answers
-//! let response = TpmResponse::cast(&[0x80, 0x01, 0, 0, 0, 14, 0, 0, 0, 0, 0, 2, 0xAA, 0xBB])?;
+//! let response = TpmResponse::cast(Rules::STANDARD, &[0x80, 0x01, 0, 0, 0, 14, 0, 0, 0, 0, 0, 2, 0xAA, 0xBB])?;
 //! assert_eq!(response.parts(cc)?.parameters, [0, 2, 0xAA, 0xBB]);
 //! # Ok::<(), Refusal>(())
 //! ```
@@ -27,7 +30,7 @@
 //! # Writing
 //!
 //! ```
-//! use skeinloft::{CommandParts, Refusal, Sessions, TpmCc, TpmSt, TpmsAuth};
+//! use skeinloft::{CommandParts, Refusal, Rules, Sessions, TpmCc, TpmSt, TpmsAuth};
 //!
 //! let password = TpmsAuth { session_handle: 0x4000_0009, hmac: b"secret", ..TpmsAuth::default() };
 //! let mut scratch = [0; 64];
@@ -39,7 +42,7 @@
 //!     parameters: &[],
 //! };
 //! let mut room = [0; 4096];
-//! let len = unseal.marshal(&mut room)?;
+//! let len = unseal.marshal(Rules::STANDARD, &mut room)?;
 //! assert_eq!(room[..6], [0x80, 0x02, 0, 0, 0, 33]);
 //! assert_eq!(len, 33);
 //! # Ok::<(), Refusal>(())
@@ -60,6 +63,7 @@ mod rc;
 mod refusal;
 mod response;
 mod rh;
+mod rules;
 mod session;
 mod st;
 mod tpm2b;
@@ -72,6 +76,7 @@ pub use rc::{TpmRc, TpmRcIndex};
 pub use refusal::Refusal;
 pub use response::{ResponseParts, TpmResponse};
 pub use rh::TpmRh;
+pub use rules::{Reading, ResponseMode, Rules};
 pub use session::{Sessions, TpmaSession, TpmsAuth};
 pub use st::TpmSt;
 pub use tpm2b::Tpm2b;

@@ -12,9 +12,9 @@ macro_rules! refusals {
         /// counts from the first byte that the call was given.
         ///
         /// ```
-        /// use skeinloft::{Refusal, TpmCommand};
+        /// use skeinloft::{Refusal, Rules, TpmCommand};
         ///
-        /// let refusal = TpmCommand::cast(&[0x80, 0x01]).unwrap_err();
+        /// let refusal = TpmCommand::cast(Rules::STANDARD, &[0x80, 0x01]).unwrap_err();
         /// assert_eq!(refusal, Refusal::UnexpectedEnd { offset: 0, needed: 10, available: 2 });
         /// assert_eq!((refusal.number(), refusal.name()), (1, "UnexpectedEnd"));
         /// assert_eq!(refusal.to_string(), "the bytes end too early at byte 0: needed 10, available 2");
@@ -95,7 +95,7 @@ macro_rules! refusals {
             ///
             /// ```
             /// let one_too_many = [0x80, 0x01, 0, 0, 0, 10, 0, 0, 1, 0x7C, 0xFF];
-            /// assert_eq!(skeinloft::TpmCommand::cast(&one_too_many).unwrap_err().offset(), 10);
+            /// assert_eq!(skeinloft::TpmCommand::cast(skeinloft::Rules::STANDARD, &one_too_many).unwrap_err().offset(), 10);
             /// ```
             #[must_use]
             pub const fn offset(&self) -> usize {
@@ -153,13 +153,13 @@ refusals! {
         value: u64,
     } "a command code that is none at byte {offset}: 0x{value:08X}"
 
-    /// A response code that is none.
+    /// A response code that is none, or does not go with the rest.
     5 InvalidRc {
         /// The place of the code.
         offset: usize,
         /// The code.
         value: u64,
-    } "a response code that is none at byte {offset}: 0x{value:08X}"
+    } "a response code that may not stand at byte {offset}: 0x{value:08X}"
 
     /// More items than there may be.
     6 TooManyItems {

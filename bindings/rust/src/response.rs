@@ -4,6 +4,7 @@ use crate::calls;
 use crate::cc::TpmCc;
 use crate::rc::TpmRc;
 use crate::refusal::Refusal;
+use crate::rules::{ResponseMode, Rules};
 use crate::session::Sessions;
 use crate::st::TpmSt;
 use crate::view::{Areas, ask, ask_parts, ask_split, ask_tag, part};
@@ -13,33 +14,36 @@ use crate::view::{Areas, ask, ask_parts, ask_split, ask_tag, part};
 /// What is behind its header depends on the command that it answers, so the calls that go further take that command's code.
 ///
 /// ```
-/// use skeinloft::{TpmCc, TpmRc, TpmResponse};
+/// use skeinloft::{Rules, TpmCc, TpmRc, TpmResponse};
 ///
-/// let refused = TpmResponse::cast(&[0x80, 0x01, 0, 0, 0, 10, 0, 0, 0x01, 0x01])?;
+/// let refused = TpmResponse::cast(Rules::STANDARD, &[0x80, 0x01, 0, 0, 0, 10, 0, 0, 0x01, 0x01])?;
 /// refused.validate(TpmCc::Unseal)?;
 /// assert_eq!(refused.rc()?.to_string(), "TPM_RC_FAILURE");
 /// # Ok::<(), skeinloft::Refusal>(())
 /// ```
 #[derive(Clone, Copy, Debug, PartialEq, Eq, Hash)]
-pub struct TpmResponse<'a>(&'a [u8]);
+pub struct TpmResponse<'a> {
+    rules: Rules,
+    bytes: &'a [u8],
+}
 
 impl<'a> TpmResponse<'a> {
     /// Checks the header.
     ///
     /// # Errors
     ///
-    /// The first of: bytes that are not as many as the size field says, a tag that is neither of the two, a response code
-    /// that is none.
+    /// The first of: bytes that are not as many as the size field says, a tag that is no response's by these rules, a
+    /// response code that is none, or does not go with the tag.
     ///
     /// ```
-    /// use skeinloft::{Refusal, TpmResponse};
+    /// use skeinloft::{Refusal, Rules, TpmResponse};
     ///
-    /// let refusal = TpmResponse::cast(&[0x80, 0x01, 0, 0, 0, 10, 0, 0, 0, 0xC4]).unwrap_err();
+    /// let refusal = TpmResponse::cast(Rules::STANDARD, &[0x80, 0x01, 0, 0, 0, 10, 0, 0, 0, 0xC4]).unwrap_err();
     /// assert_eq!(refusal, Refusal::InvalidRc { offset: 6, value: 0xC4 });
     /// ```
-    pub fn cast(bytes: &'a [u8]) -> Result<Self, Refusal> {
-        ask(|out| calls::response_cast(bytes, out))?;
-        Ok(Self(bytes))
+    pub fn cast(rules: Rules, bytes: &'a [u8]) -> Result<Self, Refusal> {
+        ask(|out| calls::response_cast(rules.number(), bytes, out))?;
+        Ok(Self { rules, bytes })
     }
 
     /// The same of a response at the start of the bytes; what is behind it comes too.
@@ -49,26 +53,40 @@ impl<'a> TpmResponse<'a> {
     /// As [`cast`](Self::cast), but for bytes behind the response.
     ///
     /// ```
-    /// use skeinloft::TpmResponse;
+    /// use skeinloft::{Rules, TpmResponse};
     ///
-    /// let (response, behind) = TpmResponse::cast_prefix(&[0x80, 0x01, 0, 0, 0, 10, 0, 0, 0, 0, 0x80])?;
+    /// let (response, behind) = TpmResponse::cast_prefix(Rules::STANDARD, &[0x80, 0x01, 0, 0, 0, 10, 0, 0, 0, 0, 0x80])?;
     /// assert_eq!((response.body(), behind), (&[][..], &[0x80][..]));
     /// # Ok::<(), skeinloft::Refusal>(())
     /// ```
-    pub fn cast_prefix(bytes: &'a [u8]) -> Result<(Self, &'a [u8]), Refusal> {
-        ask_split(bytes, calls::response_cast_prefix).map(|(frame, tail)| (Self(frame), tail))
+    pub fn cast_prefix(rules: Rules, bytes: &'a [u8]) -> Result<(Self, &'a [u8]), Refusal> {
+        let (bytes, tail) = ask_split(rules.number(), bytes, calls::response_cast_prefix)?;
+        Ok((Self { rules, bytes }, tail))
     }
 
     /// The bytes of the whole frame.
     ///
     /// ```
     /// let bytes = [0x80, 0x01, 0, 0, 0, 10, 0, 0, 0, 0];
-    /// assert_eq!(skeinloft::TpmResponse::cast(&bytes)?.as_bytes(), bytes);
+    /// assert_eq!(skeinloft::TpmResponse::cast(skeinloft::Rules::STANDARD, &bytes)?.as_bytes(), bytes);
     /// # Ok::<(), skeinloft::Refusal>(())
     /// ```
     #[must_use]
     pub const fn as_bytes(&self) -> &'a [u8] {
-        self.0
+        self.bytes
+    }
+
+    /// The rules that it was cast by, which go on to judge it.
+    ///
+    /// ```
+    /// use skeinloft::{Rules, TpmResponse};
+    ///
+    /// assert_eq!(TpmResponse::cast(Rules::RUST, &[0x80, 0x01, 0, 0, 0, 10, 0, 0, 0, 0])?.rules(), Rules::RUST);
+    /// # Ok::<(), skeinloft::Refusal>(())
+    /// ```
+    #[must_use]
+    pub const fn rules(&self) -> Rules {
+        self.rules
     }
 
     /// The tag.
@@ -78,14 +96,14 @@ impl<'a> TpmResponse<'a> {
     /// None for a frame that was cast.
     ///
     /// ```
-    /// use skeinloft::{TpmResponse, TpmSt};
+    /// use skeinloft::{Rules, TpmResponse, TpmSt};
     ///
-    /// let response = TpmResponse::cast(&[0x80, 0x02, 0, 0, 0, 10, 0, 0, 0, 0])?;
+    /// let response = TpmResponse::cast(Rules::STANDARD, &[0x80, 0x02, 0, 0, 0, 10, 0, 0, 0, 0])?;
     /// assert_eq!(response.tag()?, TpmSt::Sessions);
     /// # Ok::<(), skeinloft::Refusal>(())
     /// ```
     pub fn tag(&self) -> Result<TpmSt, Refusal> {
-        ask_tag(self.0)
+        ask_tag(self.bytes)
     }
 
     /// The response code.
@@ -95,27 +113,27 @@ impl<'a> TpmResponse<'a> {
     /// None for a frame that was cast.
     ///
     /// ```
-    /// use skeinloft::{TpmRc, TpmResponse};
+    /// use skeinloft::{Rules, TpmRc, TpmResponse};
     ///
-    /// assert_eq!(TpmResponse::cast(&[0x80, 0x01, 0, 0, 0, 10, 0, 0, 0, 0])?.rc()?, TpmRc::SUCCESS);
+    /// assert_eq!(TpmResponse::cast(Rules::STANDARD, &[0x80, 0x01, 0, 0, 0, 10, 0, 0, 0, 0])?.rc()?, TpmRc::SUCCESS);
     /// # Ok::<(), skeinloft::Refusal>(())
     /// ```
     pub fn rc(&self) -> Result<TpmRc, Refusal> {
-        let [rc, ..] = ask(|out| calls::response_rc(self.0, out))?;
+        let [rc, ..] = ask(|out| calls::response_rc(self.rules.number(), self.bytes, out))?;
         TpmRc::try_from(rc as u32)
     }
 
     /// All bytes behind the header.
     ///
     /// ```
-    /// let response = skeinloft::TpmResponse::cast(&[0x80, 0x01, 0, 0, 0, 12, 0, 0, 0, 0, 7, 8])?;
+    /// let response = skeinloft::TpmResponse::cast(skeinloft::Rules::STANDARD, &[0x80, 0x01, 0, 0, 0, 12, 0, 0, 0, 0, 7, 8])?;
     /// assert_eq!(response.body(), [7, 8]);
     /// # Ok::<(), skeinloft::Refusal>(())
     /// ```
     #[must_use]
     pub fn body(&self) -> &'a [u8] {
         // the cast saw ten bytes
-        &self.0[10..]
+        &self.bytes[10..]
     }
 
     /// Checks the response to a command whole.
@@ -126,16 +144,16 @@ impl<'a> TpmResponse<'a> {
     /// handles or parameters that are cut short, a fourth entry, an entry that is cut short.
     ///
     /// ```
-    /// use skeinloft::{Refusal, TpmCc, TpmResponse};
+    /// use skeinloft::{Refusal, Rules, TpmCc, TpmResponse};
     ///
     /// // the response to TPM2_Load has a handle
-    /// let response = TpmResponse::cast(&[0x80, 0x01, 0, 0, 0, 10, 0, 0, 0, 0])?;
+    /// let response = TpmResponse::cast(Rules::STANDARD, &[0x80, 0x01, 0, 0, 0, 10, 0, 0, 0, 0])?;
     /// let refusal = response.validate(TpmCc::Load).unwrap_err();
     /// assert_eq!(refusal, Refusal::UnexpectedEnd { offset: 10, needed: 4, available: 0 });
     /// # Ok::<(), Refusal>(())
     /// ```
     pub fn validate(&self, cc: TpmCc) -> Result<(), Refusal> {
-        ask(|out| calls::response_validate(cc.0, self.0, out)).map(|_| ())
+        ask(|out| calls::response_validate(self.rules.number(), cc.0, self.bytes, out)).map(|_| ())
     }
 
     /// Checks the response to a command whole, and gives all its parts.
@@ -145,19 +163,20 @@ impl<'a> TpmResponse<'a> {
     /// As [`validate`](Self::validate).
     ///
     /// ```
-    /// use skeinloft::{TpmCc, TpmResponse};
+    /// use skeinloft::{Rules, TpmCc, TpmResponse};
     ///
-    /// let response = TpmResponse::cast(&[0x80, 0x01, 0, 0, 0, 14, 0, 0, 0, 0, 0, 2, 0xAA, 0xBB])?;
+    /// let response = TpmResponse::cast(Rules::STANDARD, &[0x80, 0x01, 0, 0, 0, 14, 0, 0, 0, 0, 0, 2, 0xAA, 0xBB])?;
     /// assert_eq!(response.parts(TpmCc::GetRandom)?.parameters, [0, 2, 0xAA, 0xBB]);
     /// # Ok::<(), skeinloft::Refusal>(())
     /// ```
     pub fn parts(&self, cc: TpmCc) -> Result<ResponseParts<'a>, Refusal> {
-        let frame = ask_parts(|out| calls::response_parts(cc.0, self.0, out))?;
+        let frame = ask_parts(|out| calls::response_parts(self.rules.number(), cc.0, self.bytes, out))?;
         Ok(ResponseParts {
+            mode: ResponseMode::again(self.rules, TpmSt(frame.tag)),
             rc: TpmRc::try_from(frame.code)?,
-            handles: part(self.0, frame.handles),
-            sessions: Sessions { record: frame.sessions, lent: self.0 },
-            parameters: part(self.0, frame.parameters),
+            handles: part(self.bytes, frame.handles),
+            sessions: Sessions { record: frame.sessions, lent: self.bytes },
+            parameters: part(self.bytes, frame.parameters),
         })
     }
 
@@ -168,43 +187,50 @@ impl<'a> TpmResponse<'a> {
     /// As [`validate`](Self::validate).
     ///
     /// ```
-    /// use skeinloft::{TpmCc, TpmResponse};
+    /// use skeinloft::{Rules, TpmCc, TpmResponse};
     ///
-    /// let response = TpmResponse::cast(&[0x80, 0x01, 0, 0, 0, 14, 0, 0, 0, 0, 0x80, 0, 0, 0])?;
+    /// let response = TpmResponse::cast(Rules::STANDARD, &[0x80, 0x01, 0, 0, 0, 14, 0, 0, 0, 0, 0x80, 0, 0, 0])?;
     /// let areas = response.areas(TpmCc::ContextLoad)?;
     /// assert_eq!((areas.handles, areas.parameters), (10..14, 14..14));
     /// # Ok::<(), skeinloft::Refusal>(())
     /// ```
     pub fn areas(&self, cc: TpmCc) -> Result<Areas, Refusal> {
-        ask_parts(|out| calls::response_parts(cc.0, self.0, out)).map(Areas::from)
+        ask_parts(|out| calls::response_parts(self.rules.number(), cc.0, self.bytes, out)).map(Areas::from)
     }
 }
 
 impl AsRef<[u8]> for TpmResponse<'_> {
     fn as_ref(&self) -> &[u8] {
-        self.0
+        self.bytes
     }
 }
 
 /// The parts of a response: those that were read, or those to be written.
 ///
 /// ```
-/// use skeinloft::{ResponseParts, Sessions, TpmCc, TpmRc, TpmResponse};
+/// use skeinloft::{ResponseMode, ResponseParts, Rules, Sessions, TpmCc, TpmRc, TpmResponse};
 ///
-/// let random =
-///     ResponseParts { rc: TpmRc::SUCCESS, handles: &[], sessions: Sessions::default(), parameters: &[0, 1, 0x2A] };
+/// let random = ResponseParts {
+///     mode: ResponseMode::Standard,
+///     rc: TpmRc::SUCCESS,
+///     handles: &[],
+///     sessions: Sessions::default(),
+///     parameters: &[0, 1, 0x2A],
+/// };
 /// let mut room = [0; 64];
 /// let len = random.marshal(TpmCc::GetRandom, &mut room)?;
-/// assert_eq!(TpmResponse::cast(&room[..len])?.parts(TpmCc::GetRandom)?, random);
+/// assert_eq!(TpmResponse::cast(Rules::STANDARD, &room[..len])?.parts(TpmCc::GetRandom)?, random);
 /// # Ok::<(), skeinloft::Refusal>(())
 /// ```
 #[derive(Clone, Copy, Debug, PartialEq, Eq)]
 pub struct ResponseParts<'a> {
+    /// How they are written. Those that were read have the mode that writes them again, under the tag they were read under.
+    pub mode: ResponseMode,
     /// The response code.
     pub rc: TpmRc,
     /// The handles, four bytes each.
     pub handles: &'a [u8],
-    /// The sessions. They choose the tag.
+    /// The sessions. They choose the tag, but for [`ResponseMode::BadTag`].
     pub sessions: Sessions<'a>,
     /// The parameters.
     pub parameters: &'a [u8],
@@ -217,23 +243,27 @@ impl ResponseParts<'_> {
     /// # Errors
     ///
     /// The first of: more than three sessions, a command code that is none, a response code that does not read, sessions with
-    /// a code that is not success, handles that are not the response's in number, more bytes than a frame's size can say,
-    /// room that is too short. The room is then as it was.
+    /// a code that is not success, a code that does not go with the mode's tag, handles that are not the response's in
+    /// number, more bytes than a frame's size can say, room that is too short. The room is then as it was.
     ///
     /// ```
-    /// use skeinloft::{TpmCc, TpmResponse};
+    /// use skeinloft::{Refusal, ResponseMode, Rules, TpmCc, TpmResponse};
     ///
     /// let bytes = [0x80, 0x01, 0, 0, 0, 10, 0, 0, 0x01, 0x01];
-    /// let parts = TpmResponse::cast(&bytes)?.parts(TpmCc::Unseal)?;
+    /// let mut parts = TpmResponse::cast(Rules::STANDARD, &bytes)?.parts(TpmCc::Unseal)?;
     /// let mut room = [0; 10];
     /// assert_eq!(parts.marshal(TpmCc::Unseal, &mut room)?, 10);
     /// assert_eq!(room, bytes);
-    /// # Ok::<(), skeinloft::Refusal>(())
+    ///
+    /// parts.mode = ResponseMode::BadTag;
+    /// let refusal = parts.marshal(TpmCc::Unseal, &mut room).unwrap_err();
+    /// assert_eq!(refusal, Refusal::InvalidRc { offset: 0, value: 0x101 });
+    /// # Ok::<(), Refusal>(())
     /// ```
     #[doc(alias = "tpm_marshal_response")]
     pub fn marshal(&self, cc: TpmCc, room: &mut [u8]) -> Result<usize, Refusal> {
         let handed = self.sessions.handed(self.handles, self.parameters);
-        let [len, ..] = ask(|out| calls::response_write(self.rc.value(), cc.0, handed, room, out))?;
+        let [len, ..] = ask(|out| calls::response_write(self.mode.number(), self.rc.value(), cc.0, handed, room, out))?;
         Ok(len as usize)
     }
 }

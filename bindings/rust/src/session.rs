@@ -198,9 +198,9 @@ impl<'a> Sessions<'a> {
     /// The entries in their order, the first three of them.
     ///
     /// ```
-    /// use skeinloft::{TpmCc, TpmResponse};
+    /// use skeinloft::{Rules, TpmCc, TpmResponse};
     ///
-    /// let random = TpmResponse::cast(&[
+    /// let random = TpmResponse::cast(Rules::STANDARD, &[
     ///     0x80, 0x02, 0, 0, 0, 23, 0, 0, 0, 0, // tag, size, success
     ///     0, 0, 0, 4, 0, 2, 0xAA, 0xBB, // parameters, and their size before them
     ///     0, 0, 1, 0, 0, // one entry

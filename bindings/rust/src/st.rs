@@ -3,7 +3,8 @@
 use crate::names::names;
 
 names! {
-    /// A tag (Part 2, `TPM_ST`). Of these, frames have [`NoSessions`](Self::NoSessions) and [`Sessions`](Self::Sessions).
+    /// A tag (Part 2, `TPM_ST`). Of these, frames have [`NoSessions`](Self::NoSessions) and [`Sessions`](Self::Sessions), and
+    /// the answer to a bad tag has [`RspCommand`](Self::RspCommand).
     ///
     /// ```
     /// use skeinloft::TpmSt;

@@ -49,8 +49,7 @@ impl<'a, const CAPACITY: usize> Tpm2b<'a, CAPACITY> {
     /// # Ok::<(), skeinloft::Refusal>(())
     /// ```
     pub fn cast_prefix(bytes: &'a [u8]) -> Result<(Self, &'a [u8]), Refusal> {
-        let cast = |bytes: &_, out: &mut _| calls::tpm2b_cast_prefix(CAPACITY, bytes, out);
-        ask_split(bytes, cast).map(|(own, tail)| (Self(own), tail))
+        ask_split(CAPACITY, bytes, calls::tpm2b_cast_prefix).map(|(own, tail)| (Self(own), tail))
     }
 
     /// All its bytes, the size and the data.

@@ -25,9 +25,14 @@ pub(crate) fn ask_parts(call: impl FnOnce(&mut Out) -> Parts) -> Result<Frame, R
     Ok(frame)
 }
 
-/// Makes a call that gives a part of the bytes by its start and its end, and what is behind it by the next two numbers.
-pub(crate) fn ask_split(bytes: &[u8], call: impl FnOnce(&[u8], &mut Out) -> u32) -> Result<(&[u8], &[u8]), Refusal> {
-    let [from, to, tail_from, tail_to] = ask(|out| call(bytes, out))?.map(|place| place as usize);
+/// Makes a call, on a number and bytes, that gives a part of the bytes by its start and its end, and what is behind it by
+/// the next two numbers.
+pub(crate) fn ask_split<N>(
+    number: N,
+    bytes: &[u8],
+    call: impl FnOnce(N, &[u8], &mut Out) -> u32,
+) -> Result<(&[u8], &[u8]), Refusal> {
+    let [from, to, tail_from, tail_to] = ask(|out| call(number, bytes, out))?.map(|place| place as usize);
     Ok((&bytes[from..to], &bytes[tail_from..tail_to]))
 }
 
@@ -44,9 +49,9 @@ pub(crate) fn part(bytes: &[u8], span: Span) -> &[u8] {
 /// Where the areas of a frame are, as places in its bytes.
 ///
 /// ```
-/// use skeinloft::TpmCommand;
+/// use skeinloft::{Rules, TpmCommand};
 ///
-/// let unseal = TpmCommand::cast(&[
+/// let unseal = TpmCommand::cast(Rules::STANDARD, &[
 ///     0x80, 0x02, 0, 0, 0, 27, 0, 0, 0x01, 0x5E, // tag, size, code
 ///     0x80, 0, 0, 0, // the handle
 ///     0, 0, 0, 9, 0x40, 0, 0, 9, 0, 0, 0, 0, 0, // one entry, and its size before it

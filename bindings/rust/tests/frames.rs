@@ -1,6 +1,6 @@
 //! Real frames, a command and its answer a line: what passes is written again from its parts.
 
-use skeinloft::{Refusal, ResponseParts, Sessions, TpmCc, TpmCommand, TpmResponse, TpmSt, TpmsAuth};
+use skeinloft::{Refusal, ResponseParts, Rules, Sessions, TpmCc, TpmCommand, TpmResponse, TpmSt, TpmsAuth};
 
 const PAIRS: &str = include_str!("../../../compare/src/frame/real.txt");
 
@@ -9,9 +9,11 @@ fn unhex(text: &str) -> Vec<u8> {
     digits.map(|pair| u8::from_str_radix(pair, 16).expect("hexadecimal")).collect()
 }
 
-fn pairs() -> Vec<(Vec<u8>, Vec<u8>)> {
+/// Each pair, under the rules of each reading.
+fn pairs() -> Vec<(Rules, Vec<u8>, Vec<u8>)> {
     let words = PAIRS.lines().map(|line| line.split_once(' ').expect("two frames"));
-    words.map(|(command, answer)| (unhex(command), unhex(answer))).collect()
+    let both = |(command, answer)| [Rules::RUST, Rules::STANDARD].map(|rules| (rules, unhex(command), unhex(answer)));
+    words.flat_map(both).collect()
 }
 
 /// The sessions again, from copies of their entries.
@@ -31,11 +33,11 @@ fn written(write: impl FnOnce(&mut [u8]) -> Result<usize, Refusal>) -> Result<Ve
 #[test]
 fn commands_are_written_as_they_were_read() {
     let (mut same, mut bare) = (0, 0);
-    for (bytes, _) in pairs() {
-        let Ok(mut parts) = TpmCommand::cast(&bytes).and_then(|command| command.parts()) else { continue };
+    for (rules, bytes, _) in pairs() {
+        let Ok(mut parts) = TpmCommand::cast(rules, &bytes).and_then(|command| command.parts()) else { continue };
         let mut room = [0; 8192];
         parts.sessions = copied(parts.sessions, &mut room);
-        match written(|room| parts.marshal(room)) {
+        match written(|room| parts.marshal(rules, room)) {
             Ok(again) => {
                 assert_eq!(again, bytes);
                 same += 1;
@@ -48,15 +50,15 @@ fn commands_are_written_as_they_were_read() {
         }
     }
     println!("{same} commands come out the same, {bare} are under the sessions tag without a session");
-    assert!(same > 100);
+    assert!(same > 200);
 }
 
 #[test]
 fn responses_are_written_as_they_were_read() {
     let mut same = 0;
-    for (command, bytes) in pairs() {
-        let Ok(cc) = TpmCommand::cast(&command).and_then(|command| command.cc()) else { continue };
-        let Ok(parts) = TpmResponse::cast(&bytes).and_then(|response| response.parts(cc)) else { continue };
+    for (rules, command, bytes) in pairs() {
+        let Ok(cc) = TpmCommand::cast(rules, &command).and_then(|command| command.cc()) else { continue };
+        let Ok(parts) = TpmResponse::cast(rules, &bytes).and_then(|response| response.parts(cc)) else { continue };
         let mut room = [0; 8192];
         let again = ResponseParts { sessions: copied(parts.sessions, &mut room), ..parts };
         assert_eq!(again, parts);
@@ -64,13 +66,14 @@ fn responses_are_written_as_they_were_read() {
         same += 1;
     }
     println!("{same} responses come out the same");
-    assert!(same > 100);
+    assert!(same > 200);
 }
 
 #[test]
 fn areas_and_parts_tell_the_same() {
-    for (bytes, answer) in pairs() {
-        let Ok(command) = TpmCommand::cast(&bytes) else { continue };
+    let mut both = 0;
+    for (rules, bytes, answer) in pairs() {
+        let Ok(command) = TpmCommand::cast(rules, &bytes) else { continue };
         let Ok(areas) = command.areas() else { continue };
         assert_eq!(command.validate(), Ok(()));
         assert_eq!(command.handles(), Ok(&bytes[areas.handles.clone()]));
@@ -79,21 +82,24 @@ fn areas_and_parts_tell_the_same() {
         let parts = command.parts().expect("it passes");
         assert_eq!((Ok(parts.tag), Ok(parts.cc), parts.handles), (command.tag(), command.cc(), &bytes[areas.handles]));
 
-        let Ok(response) = TpmResponse::cast(&answer) else { continue };
+        let Ok(response) = TpmResponse::cast(rules, &answer) else { continue };
         let (areas, parts) = (response.areas(parts.cc), response.parts(parts.cc));
         assert_eq!(parts.map(|parts| parts.parameters), areas.map(|areas| &answer[areas.parameters]));
+        both += 1;
     }
+    println!("{both} pairs tell the same");
+    assert!(both > 200);
 }
 
 #[test]
 fn a_frame_cut_anywhere_is_refused() {
-    for (bytes, answer) in pairs() {
+    for (rules, bytes, answer) in pairs() {
         let cc = TpmCc(u32::from_be_bytes(bytes[6..10].try_into().expect("four bytes")));
         for len in 0..bytes.len() {
-            assert!(TpmCommand::cast(&bytes[..len]).is_err());
+            assert!(TpmCommand::cast(rules, &bytes[..len]).is_err());
         }
         for len in 0..answer.len() {
-            assert!(TpmResponse::cast(&answer[..len]).and_then(|response| response.validate(cc)).is_err());
+            assert!(TpmResponse::cast(rules, &answer[..len]).and_then(|response| response.validate(cc)).is_err());
         }
     }
 }
@@ -102,7 +108,7 @@ fn a_frame_cut_anywhere_is_refused() {
 fn a_cast_does_not_walk() {
     // an authorization area of five bytes, in which the nonce has half a size
     let bytes = [0x80, 0x02, 0, 0, 0, 23, 0, 0, 1, 0x5E, 0x80, 0, 0, 0, 0, 0, 0, 5, 0x40, 0, 0, 9, 0];
-    let command = TpmCommand::cast(&bytes).expect("the areas are whole");
+    let command = TpmCommand::cast(Rules::STANDARD, &bytes).expect("the areas are whole");
     let refusal = Refusal::UnexpectedEnd { offset: 22, needed: 2, available: 1 };
     assert_eq!((command.validate(), command.parts(), command.areas()), (Err(refusal), Err(refusal), Err(refusal)));
 }
@@ -110,10 +116,11 @@ fn a_cast_does_not_walk() {
 #[test]
 fn four_sessions_are_not_written() {
     let read = [0x80, 0x01, 0, 0, 0, 14, 0, 0, 1, 0x5E, 0x80, 0, 0, 0];
-    let mut parts = TpmCommand::cast(&read).and_then(|command| command.parts()).expect("it passes");
+    let mut parts = TpmCommand::cast(Rules::STANDARD, &read).and_then(|command| command.parts()).expect("it passes");
     let mut room = [0; 64];
     parts.tag = TpmSt::Sessions;
     parts.sessions = Sessions::new(&[TpmsAuth::default(); 4], &mut room).expect("there is room");
     assert_eq!(parts.sessions.iter().count(), 3);
-    assert_eq!(parts.marshal(&mut [0; 64]), Err(Refusal::TooManyItems { offset: 0, limit: 3, actual: 4 }));
+    let refusal = Refusal::TooManyItems { offset: 0, limit: 3, actual: 4 };
+    assert_eq!(parts.marshal(Rules::STANDARD, &mut [0; 64]), Err(refusal));
 }

@@ -1,6 +1,6 @@
 //! The names and numbers of the tables, beside other tables of them.
 
-use skeinloft::{Refusal, TpmCc, TpmCommand, TpmRc, TpmRcBase};
+use skeinloft::{Refusal, Rules, TpmCc, TpmCommand, TpmRc, TpmRcBase};
 use std::collections::BTreeMap;
 use std::path::PathBuf;
 
@@ -67,7 +67,7 @@ fn every_command_that_is_one_has_a_name() {
     for code in (0..0x1000).chain(0x2000_0000..0x2000_0100) {
         let header = [&[0x80, 0x01, 0, 0, 0, 10][..], &u32::to_be_bytes(code)].concat();
         // its handles may be missing
-        let known = !matches!(TpmCommand::cast(&header), Err(Refusal::InvalidCc { .. }));
+        let known = !matches!(TpmCommand::cast(Rules::RUST, &header), Err(Refusal::InvalidCc { .. }));
         assert_eq!(known, TpmCc(code).name().is_some(), "0x{code:X}");
     }
 }

@@ -2,7 +2,8 @@
 
 use super::rules;
 use crate::answer::{Kept, keep};
-use crate::calls::{self, Out};
+use crate::by::READINGS;
+use crate::calls::{self, Out, RUST};
 
 #[cfg(oracle)]
 use super::{limit, oracle};
@@ -20,24 +21,40 @@ pub enum Kind {
     Setter,
 }
 
-/// Takes the bytes, a number, a place for the parts, and the array; a call leaves alone what it has no use for.
-type Shape<T> = fn(&mut [u8], u32, &mut Kept, &mut Out) -> T;
+/// Takes the number of the rules, the bytes, a number, a place for the parts, and the array; a call leaves alone what it
+/// has no use for.
+type Shape = fn(u32, &mut [u8], u32, &mut Kept, &mut Out) -> u32;
+
+/// The same without rules, since the crate has those of the Rust reading alone; none where it cannot be asked.
+#[cfg(oracle)]
+type Theirs = fn(&mut [u8], u32, &mut Kept, &mut Out) -> Option<u32>;
 
 pub struct Call {
     pub name: &'static str,
     pub kind: Kind,
     /// Whether it takes a number: a command code, a tag, a code to write.
     pub numbered: bool,
-    pub ours: Shape<u32>,
-    pub rules: Shape<u32>,
-    /// None where the crate cannot be asked.
+    /// Whether it takes the number of the rules by which it judges.
+    pub ruled: bool,
+    pub ours: Shape,
+    pub rules: Shape,
     #[cfg(oracle)]
-    pub theirs: Shape<Option<u32>>,
+    pub theirs: Theirs,
 }
 
 impl Call {
     pub fn writes(&self) -> bool {
         self.kind == Kind::Setter
+    }
+
+    /// The readings in which it is compared.
+    pub fn readings(&self) -> &'static [u32] {
+        if self.ruled { READINGS } else { &[RUST] }
+    }
+
+    /// Whether it is about responses alone.
+    pub fn of_response(&self) -> bool {
+        self.name.starts_with("response")
     }
 }
 
@@ -51,8 +68,9 @@ pub static CALLS: [Call; 24] = [
         name: "table_find",
         kind: Kind::Table,
         numbered: true,
-        ours: |_, n, _, out| calls::table_find(n, out),
-        rules: |_, n, _, out| rules::table_find(n, out),
+        ruled: false,
+        ours: |_, _, n, _, out| calls::table_find(n, out),
+        rules: |_, _, n, _, out| rules::table_find(n, out),
         #[cfg(oracle)]
         theirs: |_, n, _, out| Some(oracle::table_find(n, out)),
     },
@@ -60,8 +78,9 @@ pub static CALLS: [Call; 24] = [
         name: "table_known",
         kind: Kind::Table,
         numbered: true,
-        ours: |_, n, _, out| calls::table_known(n, out),
-        rules: |_, n, _, out| rules::table_known(n, out),
+        ruled: false,
+        ours: |_, _, n, _, out| calls::table_known(n, out),
+        rules: |_, _, n, _, out| rules::table_known(n, out),
         #[cfg(oracle)]
         theirs: |_, n, _, out| Some(oracle::table_known(n, out)),
     },
@@ -69,8 +88,9 @@ pub static CALLS: [Call; 24] = [
         name: "tag_known",
         kind: Kind::Table,
         numbered: true,
-        ours: |_, n, _, out| calls::tag_known(n as u16, out),
-        rules: |_, n, _, out| rules::tag_known(n as u16, out),
+        ruled: false,
+        ours: |_, _, n, _, out| calls::tag_known(n as u16, out),
+        rules: |_, _, n, _, out| rules::tag_known(n as u16, out),
         #[cfg(oracle)]
         theirs: |_, n, _, out| Some(oracle::tag_known(n as u16, out)),
     },
@@ -78,8 +98,9 @@ pub static CALLS: [Call; 24] = [
         name: "frame_tag",
         kind: Kind::Header,
         numbered: false,
-        ours: |s, _, _, out| calls::frame_tag(s, out),
-        rules: |s, _, _, out| rules::frame_tag(s, out),
+        ruled: false,
+        ours: |_, s, _, _, out| calls::frame_tag(s, out),
+        rules: |_, s, _, _, out| rules::frame_tag(s, out),
         #[cfg(oracle)]
         theirs: |s, _, _, out| oracle::frame_tag(s, out),
     },
@@ -87,8 +108,9 @@ pub static CALLS: [Call; 24] = [
         name: "frame_size",
         kind: Kind::Header,
         numbered: false,
-        ours: |s, _, _, out| calls::frame_size(s, out),
-        rules: |s, _, _, out| rules::frame_size(s, out),
+        ruled: false,
+        ours: |_, s, _, _, out| calls::frame_size(s, out),
+        rules: |_, s, _, _, out| rules::frame_size(s, out),
         #[cfg(oracle)]
         theirs: |s, _, _, out| oracle::frame_size(s, out),
     },
@@ -96,8 +118,9 @@ pub static CALLS: [Call; 24] = [
         name: "frame_len",
         kind: Kind::Header,
         numbered: false,
-        ours: |s, _, _, out| calls::frame_len(s, out),
-        rules: |s, _, _, out| rules::frame_len(s, out),
+        ruled: false,
+        ours: |_, s, _, _, out| calls::frame_len(s, out),
+        rules: |_, s, _, _, out| rules::frame_len(s, out),
         #[cfg(oracle)]
         theirs: |s, _, _, out| oracle::frame_len(s, out),
     },
@@ -105,8 +128,9 @@ pub static CALLS: [Call; 24] = [
         name: "frame_is_empty",
         kind: Kind::Header,
         numbered: false,
-        ours: |s, _, _, out| calls::frame_is_empty(s, out),
-        rules: |s, _, _, out| rules::frame_is_empty(s, out),
+        ruled: false,
+        ours: |_, s, _, _, out| calls::frame_is_empty(s, out),
+        rules: |_, s, _, _, out| rules::frame_is_empty(s, out),
         #[cfg(oracle)]
         theirs: |s, _, _, out| oracle::frame_is_empty(s, out),
     },
@@ -114,8 +138,9 @@ pub static CALLS: [Call; 24] = [
         name: "command_cast",
         kind: Kind::Command,
         numbered: false,
-        ours: |s, _, _, out| calls::command_cast(s, out),
-        rules: |s, _, _, out| rules::command_cast(s, out),
+        ruled: true,
+        ours: |by, s, _, _, out| calls::command_cast(by, s, out),
+        rules: |by, s, _, _, out| rules::command_cast(by, s, out),
         #[cfg(oracle)]
         theirs: |s, _, _, out| Some(oracle::command_cast(s, out)),
     },
@@ -123,8 +148,9 @@ pub static CALLS: [Call; 24] = [
         name: "command_cast_prefix",
         kind: Kind::Command,
         numbered: false,
-        ours: |s, _, _, out| calls::command_cast_prefix(s, out),
-        rules: |s, _, _, out| rules::command_cast_prefix(s, out),
+        ruled: true,
+        ours: |by, s, _, _, out| calls::command_cast_prefix(by, s, out),
+        rules: |by, s, _, _, out| rules::command_cast_prefix(by, s, out),
         #[cfg(oracle)]
         theirs: |s, _, _, out| Some(oracle::command_cast_prefix(s, out)),
     },
@@ -132,8 +158,9 @@ pub static CALLS: [Call; 24] = [
         name: "command_validate",
         kind: Kind::Command,
         numbered: false,
-        ours: |s, _, _, out| calls::command_validate(s, out),
-        rules: |s, _, _, out| rules::command_validate(s, out),
+        ruled: true,
+        ours: |by, s, _, _, out| calls::command_validate(by, s, out),
+        rules: |by, s, _, _, out| rules::command_validate(by, s, out),
         #[cfg(oracle)]
         theirs: |s, _, kept, out| Some(limit::command_validate(s, kept, out)),
     },
@@ -141,8 +168,9 @@ pub static CALLS: [Call; 24] = [
         name: "command_parts",
         kind: Kind::Command,
         numbered: false,
-        ours: |s, _, kept, out| keep(calls::command_parts(s, out), kept),
-        rules: |s, _, kept, out| keep(rules::command_parts(s, out), kept),
+        ruled: true,
+        ours: |by, s, _, kept, out| keep(calls::command_parts(by, s, out), kept),
+        rules: |by, s, _, kept, out| keep(rules::command_parts(by, s, out), kept),
         #[cfg(oracle)]
         theirs: |s, _, kept, out| Some(limit::command_parts(s, kept, out)),
     },
@@ -150,8 +178,9 @@ pub static CALLS: [Call; 24] = [
         name: "command_cc",
         kind: Kind::Command,
         numbered: false,
-        ours: |s, _, _, out| calls::command_cc(s, out),
-        rules: |s, _, _, out| rules::command_cc(s, out),
+        ruled: true,
+        ours: |by, s, _, _, out| calls::command_cc(by, s, out),
+        rules: |by, s, _, _, out| rules::command_cc(by, s, out),
         #[cfg(oracle)]
         theirs: |s, _, _, out| oracle::command_cc(s, out),
     },
@@ -159,8 +188,9 @@ pub static CALLS: [Call; 24] = [
         name: "command_handles",
         kind: Kind::Command,
         numbered: false,
-        ours: |s, _, _, out| calls::command_handles(s, out),
-        rules: |s, _, _, out| rules::command_handles(s, out),
+        ruled: true,
+        ours: |by, s, _, _, out| calls::command_handles(by, s, out),
+        rules: |by, s, _, _, out| rules::command_handles(by, s, out),
         #[cfg(oracle)]
         theirs: |s, _, _, out| oracle::command_handles(s, out),
     },
@@ -168,8 +198,9 @@ pub static CALLS: [Call; 24] = [
         name: "command_auth_area",
         kind: Kind::Command,
         numbered: false,
-        ours: |s, _, _, out| calls::command_auth_area(s, out),
-        rules: |s, _, _, out| rules::command_auth_area(s, out),
+        ruled: true,
+        ours: |by, s, _, _, out| calls::command_auth_area(by, s, out),
+        rules: |by, s, _, _, out| rules::command_auth_area(by, s, out),
         #[cfg(oracle)]
         theirs: |s, _, _, out| oracle::command_auth_area(s, out),
     },
@@ -177,8 +208,9 @@ pub static CALLS: [Call; 24] = [
         name: "command_parameters",
         kind: Kind::Command,
         numbered: false,
-        ours: |s, _, _, out| calls::command_parameters(s, out),
-        rules: |s, _, _, out| rules::command_parameters(s, out),
+        ruled: true,
+        ours: |by, s, _, _, out| calls::command_parameters(by, s, out),
+        rules: |by, s, _, _, out| rules::command_parameters(by, s, out),
         #[cfg(oracle)]
         theirs: |s, _, _, out| oracle::command_parameters(s, out),
     },
@@ -186,8 +218,9 @@ pub static CALLS: [Call; 24] = [
         name: "response_cast",
         kind: Kind::Response,
         numbered: false,
-        ours: |s, _, _, out| calls::response_cast(s, out),
-        rules: |s, _, _, out| rules::response_cast(s, out),
+        ruled: true,
+        ours: |by, s, _, _, out| calls::response_cast(by, s, out),
+        rules: |by, s, _, _, out| rules::response_cast(by, s, out),
         #[cfg(oracle)]
         theirs: |s, _, _, out| Some(oracle::response_cast(s, out)),
     },
@@ -195,8 +228,9 @@ pub static CALLS: [Call; 24] = [
         name: "response_cast_prefix",
         kind: Kind::Response,
         numbered: false,
-        ours: |s, _, _, out| calls::response_cast_prefix(s, out),
-        rules: |s, _, _, out| rules::response_cast_prefix(s, out),
+        ruled: true,
+        ours: |by, s, _, _, out| calls::response_cast_prefix(by, s, out),
+        rules: |by, s, _, _, out| rules::response_cast_prefix(by, s, out),
         #[cfg(oracle)]
         theirs: |s, _, _, out| Some(oracle::response_cast_prefix(s, out)),
     },
@@ -204,8 +238,9 @@ pub static CALLS: [Call; 24] = [
         name: "response_validate",
         kind: Kind::Response,
         numbered: true,
-        ours: |s, cc, _, out| calls::response_validate(cc, s, out),
-        rules: |s, cc, _, out| rules::response_validate(cc, s, out),
+        ruled: true,
+        ours: |by, s, cc, _, out| calls::response_validate(by, cc, s, out),
+        rules: |by, s, cc, _, out| rules::response_validate(by, cc, s, out),
         #[cfg(oracle)]
         theirs: |s, cc, kept, out| limit::response_validate(cc, s, kept, out),
     },
@@ -213,8 +248,9 @@ pub static CALLS: [Call; 24] = [
         name: "response_parts",
         kind: Kind::Response,
         numbered: true,
-        ours: |s, cc, kept, out| keep(calls::response_parts(cc, s, out), kept),
-        rules: |s, cc, kept, out| keep(rules::response_parts(cc, s, out), kept),
+        ruled: true,
+        ours: |by, s, cc, kept, out| keep(calls::response_parts(by, cc, s, out), kept),
+        rules: |by, s, cc, kept, out| keep(rules::response_parts(by, cc, s, out), kept),
         #[cfg(oracle)]
         theirs: |s, cc, kept, out| limit::response_parts(cc, s, kept, out),
     },
@@ -222,8 +258,9 @@ pub static CALLS: [Call; 24] = [
         name: "response_rc",
         kind: Kind::Response,
         numbered: false,
-        ours: |s, _, _, out| calls::response_rc(s, out),
-        rules: |s, _, _, out| rules::response_rc(s, out),
+        ruled: true,
+        ours: |by, s, _, _, out| calls::response_rc(by, s, out),
+        rules: |by, s, _, _, out| rules::response_rc(by, s, out),
         #[cfg(oracle)]
         theirs: |s, _, _, out| oracle::response_rc(s, out),
     },
@@ -231,8 +268,9 @@ pub static CALLS: [Call; 24] = [
         name: "response_body",
         kind: Kind::Response,
         numbered: false,
-        ours: |s, _, _, out| calls::response_body(s, out),
-        rules: |s, _, _, out| rules::response_body(s, out),
+        ruled: false,
+        ours: |_, s, _, _, out| calls::response_body(s, out),
+        rules: |_, s, _, _, out| rules::response_body(s, out),
         #[cfg(oracle)]
         theirs: |s, _, _, out| oracle::response_body(s, out),
     },
@@ -240,8 +278,9 @@ pub static CALLS: [Call; 24] = [
         name: "frame_set_tag",
         kind: Kind::Setter,
         numbered: true,
-        ours: |s, n, _, out| calls::frame_set_tag(n as u16, s, out),
-        rules: |s, n, _, out| rules::frame_set_tag(s, n as u16, out),
+        ruled: false,
+        ours: |_, s, n, _, out| calls::frame_set_tag(n as u16, s, out),
+        rules: |_, s, n, _, out| rules::frame_set_tag(s, n as u16, out),
         #[cfg(oracle)]
         theirs: |s, n, _, out| oracle::frame_set_tag(s, n as u16, out),
     },
@@ -249,8 +288,9 @@ pub static CALLS: [Call; 24] = [
         name: "command_set_cc",
         kind: Kind::Setter,
         numbered: true,
-        ours: |s, n, _, out| calls::command_set_cc(n, s, out),
-        rules: |s, n, _, out| rules::command_set_cc(s, n, out),
+        ruled: true,
+        ours: |by, s, n, _, out| calls::command_set_cc(by, n, s, out),
+        rules: |by, s, n, _, out| rules::command_set_cc(by, s, n, out),
         #[cfg(oracle)]
         theirs: |s, n, _, out| oracle::command_set_cc(s, n, out),
     },
@@ -258,8 +298,9 @@ pub static CALLS: [Call; 24] = [
         name: "response_set_rc",
         kind: Kind::Setter,
         numbered: true,
-        ours: |s, n, _, out| calls::response_set_rc(n, s, out),
-        rules: |s, n, _, out| rules::response_set_rc(s, n, out),
+        ruled: true,
+        ours: |by, s, n, _, out| calls::response_set_rc(by, n, s, out),
+        rules: |by, s, n, _, out| rules::response_set_rc(by, s, n, out),
         #[cfg(oracle)]
         theirs: |s, n, _, out| oracle::response_set_rc(s, n, out),
     },

@@ -1,14 +1,16 @@
-//! Where the calls are made: one case that is changed in place, and a tally a call.
+//! Where the calls are made: one case that is changed in place, and a tally for each call and the rules that it is given.
 
 use super::call::{CALLS, Kind, named};
 use super::{Frame, known};
+use crate::by::{By, READINGS};
+use crate::calls::RUST;
 use crate::judge::Tally;
 use crate::random::Random;
 
 pub struct Desk {
     case: Frame,
-    /// One for each call, in the calls' order.
-    tallies: Vec<Tally>,
+    /// Those of each call, in the calls' order.
+    tallies: Vec<[Tally; By::ALL.len()]>,
     setters: [usize; 3],
 }
 
@@ -33,8 +35,8 @@ impl Numbers {
 impl Desk {
     pub fn new() -> Self {
         Self {
-            case: Frame { call: &CALLS[0], bytes: Vec::new(), number: 0 },
-            tallies: CALLS.iter().map(|call| Tally::new::<Frame>(call.name)).collect(),
+            case: Frame { call: &CALLS[0], by: RUST, bytes: Vec::new(), number: 0 },
+            tallies: CALLS.iter().map(|call| By::ALL.map(|by| Tally::of::<Frame>(call.name, by))).collect(),
             setters: ["frame_set_tag", "command_set_cc", "response_set_rc"].map(named),
         }
     }
@@ -50,11 +52,17 @@ impl Desk {
         &mut self.case.bytes
     }
 
-    /// Makes a call, with the number if it takes one.
+    /// Makes a call in each reading that it takes, with the number if it takes one.
     pub fn ask(&mut self, call: usize, number: u32) {
+        CALLS[call].readings().iter().for_each(|&by| self.ask_by(by, call, number));
+    }
+
+    /// Makes it by the rules of a number alone.
+    pub fn ask_by(&mut self, by: u32, call: usize, number: u32) {
         self.case.call = &CALLS[call];
+        self.case.by = by;
         self.case.number = if self.case.call.numbered { number } else { 0 };
-        self.tallies[call].check(&self.case);
+        self.tallies[call][By::numbered(by, READINGS) as usize].check(&self.case);
     }
 
     /// Makes every call of a kind; those that take a number take this one.
@@ -82,15 +90,17 @@ impl Desk {
 
     /// Adds the counts of another desk.
     pub fn merge(&mut self, other: &Self) {
-        self.tallies.iter_mut().zip(&other.tallies).for_each(|(mine, more)| mine.merge(more));
+        let others = other.tallies.iter().flatten();
+        self.tallies.iter_mut().flatten().zip(others).for_each(|(mine, more)| mine.merge(more));
     }
 
+    /// The tally of a call in the Rust reading.
     pub fn tally(&mut self, call: usize) -> &mut Tally {
-        &mut self.tallies[call]
+        &mut self.tallies[call][By::Rust as usize]
     }
 
     /// The counts of the calls that were made.
     pub fn done(self) -> Vec<Tally> {
-        self.tallies.into_iter().filter(|tally| tally.calls() > 0).collect()
+        self.tallies.into_iter().flatten().filter(|tally| tally.calls() > 0).collect()
     }
 }

@@ -1,12 +1,14 @@
 //! The inputs of the frame suite: from every short string of bytes to frames that are wrong in one place.
 
+mod bad_tag;
 mod damage;
 mod entries;
 mod headers;
 
-use super::call::{Kind, named};
+use super::call::{CALLS, Kind, named};
 use super::desk::{Desk, Numbers};
 use super::{known, make};
+use crate::by::{self, READINGS};
 use crate::random::Random;
 use std::thread;
 
@@ -23,6 +25,8 @@ pub fn each(desk: &mut Desk, random: &mut Random, thin: bool) {
         headers::each(desk, random, thin);
         entries::each(desk, random, thin);
         damage::each(desk, random, thin);
+        bad_tag::each(desk, random, thin);
+        unnamed(desk, random);
     });
     desk.merge(&beside);
 }
@@ -82,6 +86,19 @@ fn tags(desk: &mut Desk, thin: bool) {
             desk.ask_kind(Kind::Header, 0);
             desk.ask_kind(Kind::Command, 0);
             desk.ask_kind(Kind::Response, 0x15E);
+        }
+    }
+}
+
+/// Each call that takes rules, with numbers that name none: on bytes that are cut, and on frames that pass and do not.
+fn unnamed(desk: &mut Desk, random: &mut Random) {
+    let headers = [(make::PLAIN, 0x144), (make::PLAIN, 0), (make::RSP_COMMAND, make::BAD_TAG)];
+    let frames = headers.iter().map(|&(tag, code)| make::fields(tag, 10, code)).chain([Vec::new(), random.bytes(9)]);
+    let frames: Vec<_> = frames.collect();
+    for (frame, number) in frames.iter().flat_map(|frame| [0, 0x144, u32::MAX].map(|number| (frame, number))) {
+        desk.lay(frame);
+        for (at, _) in CALLS.iter().enumerate().filter(|(_, call)| call.ruled) {
+            by::unnamed(READINGS).for_each(|by| desk.ask_by(by, at, number));
         }
     }
 }

@@ -7,15 +7,16 @@ use super::call::{CALLS, Kind, named};
 use super::known::{self, Row};
 use super::make::{self, PLAIN, SESSIONS};
 use super::{Frame, real};
+use crate::calls::RUST;
 use crate::edges;
 use crate::judge;
 use crate::random::Random;
 
-/// One line.
+/// One line, in the Rust reading.
 fn line(call: usize, bytes: &[u8], number: u32) {
     let call = &CALLS[call];
     let number = if call.numbered { number } else { 0 };
-    judge::list(&Frame { call, bytes: bytes.to_vec(), number }, call.writes());
+    judge::list(&Frame { call, by: RUST, bytes: bytes.to_vec(), number }, call.writes());
 }
 
 /// A line for each of these calls.

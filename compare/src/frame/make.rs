@@ -6,6 +6,15 @@ use crate::random::Random;
 pub const PLAIN: u16 = 0x8001;
 pub const SESSIONS: u16 = 0x8002;
 
+/// The tag of the answer to a bad tag, and its code.
+pub const RSP_COMMAND: u16 = 0x00C4;
+pub const BAD_TAG: u32 = 0x1E;
+
+/// Whether the bytes have a header, and in it the tag of the answer to a bad tag.
+pub fn is_under_bad_tag(s: &[u8]) -> bool {
+    s.len() >= 10 && s.starts_with(&RSP_COMMAND.to_be_bytes())
+}
+
 /// Entries one after the other.
 #[derive(Clone, Default)]
 pub struct Entries {

@@ -1,4 +1,5 @@
-//! Document 01's order of checks, written out. It has an answer for every input, also where the crate has none.
+//! Document 01's order of checks, written out, with what document 02 adds to it for the standard reading: the answer to a
+//! bad tag. It has an answer for every input, also where the crate has none.
 //!
 //! Each public function has the shape of our call: what is lent goes in, the number comes out, the array takes the rest; the
 //! parts come by value.
@@ -8,7 +9,7 @@ mod parts;
 pub use parts::{command_parts, command_validate, response_parts, response_validate};
 
 use super::known::{self, Row};
-use crate::calls::Out;
+use crate::calls::{self, Out};
 use crate::report::report;
 
 /// A refusal: its number and its fields, of which 1 and 6 have three and the others two.
@@ -40,6 +41,35 @@ fn put(number: u32, values: &[usize], out: &mut Out) -> u32 {
 const HEADER: usize = 10;
 const PLAIN: usize = 0x8001;
 const SESSIONS: usize = 0x8002;
+
+/// The tag that Part 2 gives to the answer to a bad tag alone, and that answer's code.
+const RSP_COMMAND: usize = 0x00C4;
+const BAD_TAG: u32 = 0x1E;
+
+// ---- the readings
+
+/// The Rust's, which is document 01's and admits two tags only, and the standard one.
+#[derive(Clone, Copy, PartialEq)]
+enum Reading {
+    Rust,
+    Standard,
+}
+
+/// The reading that a number names; one that names none is refused before anything else.
+fn reading(by: u32) -> Read<Reading> {
+    match by {
+        calls::RUST => Ok(Reading::Rust),
+        calls::STANDARD => Ok(Reading::Standard),
+        _ => Err(refusal(101, 0, by as usize)),
+    }
+}
+
+impl Reading {
+    /// Whether this is the tag of the answer to a bad tag, and of no other response.
+    fn gives_to_bad_tag(self, tag: usize) -> bool {
+        self == Self::Standard && tag == RSP_COMMAND
+    }
+}
 
 /// The number of `width` bytes at a place where they are known to be.
 fn number(s: &[u8], at: usize, width: usize) -> usize {
@@ -89,8 +119,11 @@ fn known_code(code: u32) -> Read<Row> {
     known::row(code).ok_or(refusal(4, 6, code as usize))
 }
 
-fn readable(offset: usize, code: u32) -> Read<u32> {
-    if known::reads(code) { Ok(code) } else { Err(refusal(5, offset, code as usize)) }
+/// A code that reads in a response of this tag. In the answer to a bad tag its own code does and no other, whether or not
+/// it is known.
+fn readable(reading: Reading, tag: usize, offset: usize, code: u32) -> Read<u32> {
+    let reads = if reading.gives_to_bad_tag(tag) { code == BAD_TAG } else { known::reads(code) };
+    if reads { Ok(code) } else { Err(refusal(5, offset, code as usize)) }
 }
 
 pub fn frame_tag(s: &[u8], out: &mut Out) -> u32 {
@@ -110,14 +143,21 @@ pub fn frame_is_empty(s: &[u8], out: &mut Out) -> u32 {
     put(0, &[s.is_empty().into()], out)
 }
 
-pub fn command_cc(s: &[u8], out: &mut Out) -> u32 {
-    let row = header(s).and_then(|()| known_code(code_field(s)));
+pub fn command_cc(by: u32, s: &[u8], out: &mut Out) -> u32 {
+    let row = reading(by).and_then(|_| header(s)).and_then(|()| known_code(code_field(s)));
     tell(row, |row| [row.code as usize], out)
 }
 
-pub fn response_rc(s: &[u8], out: &mut Out) -> u32 {
-    let code = header(s).and_then(|()| readable(6, code_field(s)));
-    tell(code, |code| [code as usize], out)
+pub fn response_rc(by: u32, s: &[u8], out: &mut Out) -> u32 {
+    tell(response_code(by, s, None), |code| [code as usize], out)
+}
+
+/// The code that stands in a response, or one that is to be set in its place: it has to read under the tag that is there.
+fn response_code(by: u32, s: &[u8], set: Option<u32>) -> Read<u32> {
+    let reading = reading(by)?;
+    header(s)?;
+    let (offset, code) = set.map_or((6, code_field(s)), |code| (0, code));
+    readable(reading, tag_field(s), offset, code)
 }
 
 pub fn frame_set_tag(s: &mut [u8], tag: u16, out: &mut Out) -> u32 {
@@ -125,13 +165,13 @@ pub fn frame_set_tag(s: &mut [u8], tag: u16, out: &mut Out) -> u32 {
     tell(set.map(|_| s[..2].copy_from_slice(&tag.to_be_bytes())), |()| [], out)
 }
 
-pub fn command_set_cc(s: &mut [u8], code: u32, out: &mut Out) -> u32 {
-    let set = header(s).and_then(|()| row_of(code));
+pub fn command_set_cc(by: u32, s: &mut [u8], code: u32, out: &mut Out) -> u32 {
+    let set = reading(by).and_then(|_| header(s)).and_then(|()| row_of(code));
     tell(set.map(|_| s[6..10].copy_from_slice(&code.to_be_bytes())), |()| [], out)
 }
 
-pub fn response_set_rc(s: &mut [u8], code: u32, out: &mut Out) -> u32 {
-    let set = header(s).and_then(|()| readable(0, code));
+pub fn response_set_rc(by: u32, s: &mut [u8], code: u32, out: &mut Out) -> u32 {
+    let set = response_code(by, s, Some(code));
     tell(set.map(|_| s[6..10].copy_from_slice(&code.to_be_bytes())), |()| [], out)
 }
 
@@ -155,8 +195,12 @@ fn frame_tag_of(frame: &[u8]) -> Read<usize> {
     }
 }
 
-fn nothing_behind<'a>((frame, tail): (&'a [u8], &[u8])) -> Read<&'a [u8]> {
-    if tail.is_empty() { Ok(frame) } else { Err(refusal(2, frame.len(), tail.len())) }
+/// The tag of a response, one of the two or that of the answer to a bad tag.
+fn response_tag_of(reading: Reading, frame: &[u8]) -> Read<usize> {
+    match tag_field(frame) {
+        tag if reading.gives_to_bad_tag(tag) => Ok(tag),
+        _ => frame_tag_of(frame),
+    }
 }
 
 /// Where so many handles end.
@@ -191,16 +235,16 @@ fn command_areas(s: &[u8]) -> Read<(usize, usize, usize)> {
     Ok((handles, from, to))
 }
 
-pub fn command_handles(s: &[u8], out: &mut Out) -> u32 {
-    tell(command_handles_end(s), |end| [HEADER, end], out)
+pub fn command_handles(by: u32, s: &[u8], out: &mut Out) -> u32 {
+    tell(reading(by).and_then(|_| command_handles_end(s)), |end| [HEADER, end], out)
 }
 
-pub fn command_auth_area(s: &[u8], out: &mut Out) -> u32 {
-    tell(command_areas(s), |(_, from, to)| [from, to], out)
+pub fn command_auth_area(by: u32, s: &[u8], out: &mut Out) -> u32 {
+    tell(reading(by).and_then(|_| command_areas(s)), |(_, from, to)| [from, to], out)
 }
 
-pub fn command_parameters(s: &[u8], out: &mut Out) -> u32 {
-    tell(command_areas(s), |(_, _, to)| [to, s.len()], out)
+pub fn command_parameters(by: u32, s: &[u8], out: &mut Out) -> u32 {
+    tell(reading(by).and_then(|_| command_areas(s)), |(_, _, to)| [to, s.len()], out)
 }
 
 pub fn response_body(s: &[u8], out: &mut Out) -> u32 {
@@ -209,30 +253,47 @@ pub fn response_body(s: &[u8], out: &mut Out) -> u32 {
 
 // ---- casts
 
-fn command_judged(frame: &[u8]) -> Read<usize> {
+/// What is taken for the frame: all of the bytes, or those at their start.
+type Taken = fn(&[u8]) -> Read<&[u8]>;
+
+fn whole(s: &[u8]) -> Read<&[u8]> {
+    let (frame, tail) = prefix(s)?;
+    if tail.is_empty() { Ok(frame) } else { Err(refusal(2, frame.len(), tail.len())) }
+}
+
+fn first(s: &[u8]) -> Read<&[u8]> {
+    prefix(s).map(|(frame, _)| frame)
+}
+
+/// A command, which both readings judge alike.
+fn command_judged(by: u32, s: &[u8], taken: Taken) -> Read<&[u8]> {
+    reading(by)?;
+    let frame = taken(s)?;
     frame_tag_of(frame)?;
     command_areas(frame)?;
-    Ok(frame.len())
+    Ok(frame)
 }
 
-fn response_judged(frame: &[u8]) -> Read<usize> {
-    frame_tag_of(frame)?;
-    readable(6, code_field(frame))?;
-    Ok(frame.len())
+fn response_judged(by: u32, s: &[u8], taken: Taken) -> Read<&[u8]> {
+    let reading = reading(by)?;
+    let frame = taken(s)?;
+    let tag = response_tag_of(reading, frame)?;
+    readable(reading, tag, 6, code_field(frame))?;
+    Ok(frame)
 }
 
-pub fn command_cast(s: &[u8], out: &mut Out) -> u32 {
-    tell(prefix(s).and_then(nothing_behind).and_then(command_judged), |n| [0, n], out)
+pub fn command_cast(by: u32, s: &[u8], out: &mut Out) -> u32 {
+    tell(command_judged(by, s, whole), |frame| [0, frame.len()], out)
 }
 
-pub fn command_cast_prefix(s: &[u8], out: &mut Out) -> u32 {
-    tell(prefix(s).and_then(|(frame, _)| command_judged(frame)), |n| [0, n, n, s.len()], out)
+pub fn command_cast_prefix(by: u32, s: &[u8], out: &mut Out) -> u32 {
+    tell(command_judged(by, s, first), |frame| [0, frame.len(), frame.len(), s.len()], out)
 }
 
-pub fn response_cast(s: &[u8], out: &mut Out) -> u32 {
-    tell(prefix(s).and_then(nothing_behind).and_then(response_judged), |n| [0, n], out)
+pub fn response_cast(by: u32, s: &[u8], out: &mut Out) -> u32 {
+    tell(response_judged(by, s, whole), |frame| [0, frame.len()], out)
 }
 
-pub fn response_cast_prefix(s: &[u8], out: &mut Out) -> u32 {
-    tell(prefix(s).and_then(|(frame, _)| response_judged(frame)), |n| [0, n, n, s.len()], out)
+pub fn response_cast_prefix(by: u32, s: &[u8], out: &mut Out) -> u32 {
+    tell(response_judged(by, s, first), |frame| [0, frame.len(), frame.len(), s.len()], out)
 }

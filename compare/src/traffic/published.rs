@@ -1,8 +1,9 @@
 //! Frames that other projects publish, in a table of kind, bytes, source, what it is, and what document 01 says of it.
-//! The last column is text for readers: it must be what our own answer becomes when it is told in those words.
+//! The last column is text for readers: it must be what our own answer in the Rust reading becomes when it is told in those
+//! words.
 
 use super::{Desks, ask_command, ask_response, read};
-use crate::calls::{self, Frame, OFFSET, Out, Parts, Span};
+use crate::calls::{self, Frame, OFFSET, Out, Parts, RUST, Span};
 use crate::frame::{named, real};
 use std::path::Path;
 
@@ -44,7 +45,7 @@ fn fields(row: &str) -> Vec<String> {
 fn command(desks: &mut Desks, frame: &[u8]) -> String {
     ask_command(desks, frame);
     let mut out = [0; 8];
-    let Parts { refusal: number, frame } = calls::command_parts(frame, &mut out);
+    let Parts { refusal: number, frame } = calls::command_parts(RUST, frame, &mut out);
     if number != 0 {
         return refusal(number, &out);
     }
@@ -56,7 +57,7 @@ fn response(desks: &mut Desks, frame: &[u8], what: &str) -> String {
     let cc = answered(what);
     ask_response(desks, cc, frame);
     let mut out = [0; 8];
-    let Parts { refusal: number, frame } = calls::response_parts(cc, frame, &mut out);
+    let Parts { refusal: number, frame } = calls::response_parts(RUST, cc, frame, &mut out);
     if number != 0 {
         return refusal(number, &out);
     }

@@ -1,18 +1,20 @@
 //! Each frame that passes, read into its parts and written again from them: the same bytes come, but for a frame under
 //! the sessions tag without an entry, which no writer makes. Such a command is refused, 3(0,0x8002); such a success is
-//! written under the plain tag, without the size of its parameters and so four bytes shorter.
+//! written under the plain tag, without the size of its parameters and so four bytes shorter. A frame is written in the mode
+//! of the reading in which it passed, the answer to a bad tag with its tag asked for.
 
 use super::{Desk, Kind};
 use crate::answer::Hex;
-use crate::calls::{self, Frame, Handed, OFFSET, Span};
-use crate::frame::make::{self, PLAIN, SESSIONS};
+use crate::by::READINGS;
+use crate::calls::{self, Frame, Handed, OFFSET, RUST, STANDARD_BAD_TAG, Span};
+use crate::frame::make::{self, PLAIN, RSP_COMMAND, SESSIONS};
 use crate::judge::RULES;
 
 pub struct Again {
     /// Where the calls are held to the judges.
     pub desk: Desk,
-    /// How many commands and how many responses came to what.
-    counts: [Count; 2],
+    /// In each reading, how many commands and how many responses came to what.
+    counts: [[Count; 2]; 2],
 }
 
 #[derive(Clone, Copy, Default)]
@@ -24,47 +26,53 @@ struct Count {
 
 impl Again {
     pub fn new() -> Self {
-        Self { desk: Desk::new(), counts: [Count::default(); 2] }
+        Self { desk: Desk::new(), counts: [[Count::default(); 2]; 2] }
     }
 
-    /// Tells whether the frame passes; where it does not, there is nothing to write.
-    pub fn command(&mut self, s: &[u8]) -> bool {
-        let parts = calls::command_parts(s, &mut [0; 8]);
+    /// Reads a command, or a response to the command of a code, in each reading; where it does not pass, there is nothing to
+    /// write. Gives the readings in which it passes.
+    pub fn frame(&mut self, kind: Kind, cc: u32, s: &[u8]) -> Vec<u32> {
+        READINGS.iter().copied().filter(|&reading| self.in_reading(reading, kind, cc, s)).collect()
+    }
+
+    /// The same of a frame that has to pass in these readings and in no other.
+    pub fn passing(&mut self, readings: &[u32], kind: Kind, cc: u32, s: &[u8]) {
+        let passes = self.frame(kind, cc, s);
+        if passes != readings {
+            let how = format!("{} passes in the readings {passes:?}, and was made to in {readings:?}", Hex(s));
+            self.desk.tally(kind).differs_from(RULES, &how);
+        }
+    }
+
+    fn in_reading(&mut self, reading: u32, kind: Kind, cc: u32, s: &[u8]) -> bool {
+        let out = &mut [0; 8];
+        let parts = match kind {
+            Kind::Command => calls::command_parts(reading, s, out),
+            Kind::Response => calls::response_parts(reading, cc, s, out),
+        };
         if parts.refusal == 0 {
-            self.check(Kind::Command, parts.frame.tag.into(), parts.frame.code, &parts.frame, s);
+            self.check(reading, kind, cc, &parts.frame, s);
         }
         parts.refusal == 0
     }
 
-    /// The same of a response to the command of a code.
-    pub fn response(&mut self, cc: u32, s: &[u8]) -> bool {
-        let parts = calls::response_parts(cc, s, &mut [0; 8]);
-        if parts.refusal == 0 {
-            self.check(Kind::Response, parts.frame.code, cc, &parts.frame, s);
-        }
-        parts.refusal == 0
-    }
-
-    /// The same of a frame that has to pass.
-    pub fn passing(&mut self, kind: Kind, cc: u32, s: &[u8]) {
-        let passes = if kind == Kind::Command { self.command(s) } else { self.response(cc, s) };
-        if !passes {
-            self.desk.tally(kind).differs_from(RULES, &format!("{} does not pass, and was made to", Hex(s)));
-        }
-    }
-
-    fn check(&mut self, kind: Kind, number: u32, cc: u32, frame: &Frame, s: &[u8]) {
+    fn check(&mut self, reading: u32, kind: Kind, cc: u32, frame: &Frame, s: &[u8]) {
+        let mode = if frame.tag == RSP_COMMAND { STANDARD_BAD_TAG } else { reading };
+        let (number, cc) = match kind {
+            Kind::Command => (frame.tag.into(), frame.code),
+            Kind::Response => (frame.code, cc),
+        };
         let given = Handed {
             handles: part(s, frame.handles),
             sessions: frame.sessions,
             lent: s,
             parameters: part(s, frame.parameters),
         };
-        self.judge(kind, number, cc, given, s.len());
+        self.judge(mode, kind, number, cc, given, s.len());
         let (mut room, mut out) = (vec![UNWRITTEN; s.len()], [0; 8]);
         let said = match kind {
-            Kind::Command => calls::command_write(number as u16, cc, given, &mut room, &mut out),
-            Kind::Response => calls::response_write(number, cc, given, &mut room, &mut out),
+            Kind::Command => calls::command_write(mode, number as u16, cc, given, &mut room, &mut out),
+            Kind::Response => calls::response_write(mode, number, cc, given, &mut room, &mut out),
         };
         let without_entry = frame.tag == SESSIONS && frame.sessions.count == 0;
         let as_it_should = match (without_entry, kind) {
@@ -74,7 +82,7 @@ impl Again {
             }
             (true, Kind::Response) => said == 0 && out[0] == s.len() as u64 - 4 && room == plain(s, frame),
         };
-        let count = &mut self.counts[kind as usize];
+        let count = &mut self.counts[reading as usize][kind as usize];
         match (as_it_should, without_entry) {
             (true, false) => count.same += 1,
             (true, true) => count.without_entry += 1,
@@ -87,25 +95,29 @@ impl Again {
     }
 
     /// The same call, held to the judges.
-    fn judge(&mut self, kind: Kind, number: u32, cc: u32, given: Handed, len: usize) {
+    fn judge(&mut self, mode: u32, kind: Kind, number: u32, cc: u32, given: Handed, len: usize) {
         let case = &mut self.desk.case;
         (case.kind, case.number, case.cc) = (kind, number, cc);
         case.handles = given.handles.to_vec();
         case.sessions = given.sessions;
         case.lent = given.lent.to_vec();
         case.parameters = given.parameters.to_vec();
-        self.desk.ask_in(len);
+        case.room = len;
+        self.desk.ask_by(mode);
     }
 
     /// Tells for a suite what came of all.
     pub fn tell(&self, suite: &str) {
-        for (what, without, count) in [
-            ("commands", "refused by 3(0,32770)", self.counts[0]),
-            ("responses", "written under the plain tag, four bytes shorter", self.counts[1]),
-        ] {
-            let Count { same, without_entry, differ } = count;
-            print!("{suite}: {} {what} written again: {same} the same, ", same + without_entry + differ);
-            println!("{without_entry} under the sessions tag without an entry {without}, {differ} differ");
+        for (&reading, [commands, responses]) in READINGS.iter().zip(self.counts) {
+            for (what, without, count) in [
+                ("commands", "refused by 3(0,32770)", commands),
+                ("responses", "written under the plain tag, four bytes shorter", responses),
+            ] {
+                let Count { same, without_entry, differ } = count;
+                let mode = if reading == RUST { "" } else { " in the standard mode" };
+                print!("{suite}: {} {what} written again{mode}: {same} the same, ", same + without_entry + differ);
+                println!("{without_entry} under the sessions tag without an entry {without}, {differ} differ");
+            }
         }
     }
 }

@@ -1,16 +1,17 @@
-//! Where the calls are made: one case that is changed in place, and a tally a writer. A call with few sessions is made a second
-//! time with an array of records.
+//! Where the calls are made: one case that is changed in place, and a tally for each writer and mode. A call with few sessions is
+//! made a second time with an array of records.
 
 use super::{Kind, Write};
-use crate::calls::Sessions;
+use crate::by::By;
+use crate::calls::{RUST, Sessions};
 use crate::judge::Tally;
 use crate::report::MOST;
 
 pub struct Desk {
     /// The next call.
     pub case: Write,
-    /// One for each writer, by value and over an array.
-    tallies: [[Tally; 2]; 2],
+    /// Those of each writer, by value and over an array.
+    tallies: [[[Tally; By::ALL.len()]; 2]; 2],
 }
 
 impl Desk {
@@ -18,6 +19,7 @@ impl Desk {
         let case = Write {
             kind: Kind::Command,
             array: false,
+            by: RUST,
             number: 0,
             cc: 0,
             handles: Vec::new(),
@@ -26,38 +28,43 @@ impl Desk {
             parameters: Vec::new(),
             room: 0,
         };
-        Self { case, tallies: [false, true].map(|array| Kind::ALL.map(|kind| Tally::new::<Write>(kind.name(array)))) }
+        let tallies = |kind: Kind, array| By::ALL.map(|by| Tally::of::<Write>(kind.name(array), by));
+        Self { case, tallies: [false, true].map(|array| Kind::ALL.map(|kind| tallies(kind, array))) }
     }
 
-    /// Makes the call that lies on the desk.
-    pub fn ask(&mut self) {
+    /// Makes the call that lies on the desk in the mode of a number.
+    pub fn ask_by(&mut self, by: u32) {
+        let kind = self.case.kind;
+        self.case.by = by;
         for array in [false, true] {
             if array && self.case.sessions.count > MOST {
                 continue;
             }
             self.case.array = array;
-            self.tallies[usize::from(array)][self.case.kind as usize].check(&self.case);
+            let tallies = &mut self.tallies[usize::from(array)][kind as usize];
+            tallies[By::numbered(by, kind.modes()) as usize].check(&self.case);
         }
     }
 
-    /// Makes it with so much room.
+    /// Makes it with so much room, in each mode.
     pub fn ask_in(&mut self, room: usize) {
         self.case.room = room;
-        self.ask();
+        self.case.kind.modes().iter().for_each(|&by| self.ask_by(by));
     }
 
     /// Adds the counts of another desk.
     pub fn merge(&mut self, other: &Self) {
-        let others = other.tallies.iter().flatten();
-        self.tallies.iter_mut().flatten().zip(others).for_each(|(mine, more)| mine.merge(more));
+        let others = other.tallies.iter().flatten().flatten();
+        self.tallies.iter_mut().flatten().flatten().zip(others).for_each(|(mine, more)| mine.merge(more));
     }
 
+    /// The tally of a writer in the Rust mode.
     pub fn tally(&mut self, kind: Kind) -> &mut Tally {
-        &mut self.tallies[0][kind as usize]
+        &mut self.tallies[0][kind as usize][By::Rust as usize]
     }
 
     /// The counts of the calls that were made.
     pub fn done(self) -> Vec<Tally> {
-        self.tallies.into_iter().flatten().filter(|tally| tally.calls() > 0).collect()
+        self.tallies.into_iter().flatten().flatten().filter(|tally| tally.calls() > 0).collect()
     }
 }

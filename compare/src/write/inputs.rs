@@ -4,10 +4,11 @@ mod fields;
 mod mixed;
 
 use super::{Again, Desk, Kind};
-use crate::calls::{Field, Session, Sessions};
+use crate::by::{self, READINGS};
+use crate::calls::{Field, STANDARD, Session, Sessions};
 use crate::edges;
 use crate::frame::known::{self, Row};
-use crate::frame::make;
+use crate::frame::make::{self, BAD_TAG, PLAIN, RSP_COMMAND};
 use crate::random::Random;
 use std::thread;
 
@@ -25,6 +26,8 @@ pub fn each(desk: &mut Desk, random: &mut Random, thin: bool) {
         made_frames(desk, random);
         fields::each(desk, &pool, random, thin);
         mixed::each(desk, &pool, random, rounds(thin));
+        bad_tag(desk, &pool, random);
+        unnamed(desk, &pool, random);
     });
     desk.merge(&beside);
 }
@@ -99,9 +102,15 @@ fn handles(kind: Kind, row: &Row) -> usize {
 
 /// Makes the call on the desk with room that is one short, just enough, one over, much longer, and none at all.
 fn in_rooms(desk: &mut Desk) {
+    in_rooms_by(desk, desk.case.kind.modes());
+}
+
+/// The same in these modes alone.
+fn in_rooms_by(desk: &mut Desk, modes: &[u32]) {
     let needed = desk.case.needed();
     for room in [needed, needed - 1, needed + 1, needed + 1_000, 0] {
-        desk.ask_in(room);
+        desk.case.room = room;
+        modes.iter().for_each(|&by| desk.ask_by(by));
     }
 }
 
@@ -187,8 +196,8 @@ fn parameters(desk: &mut Desk, pool: &Pool, random: &mut Random) {
     }
 }
 
-/// Frames of every row, with each number of entries and without an area, written again from their parts; and a bare
-/// error.
+/// Frames of every row, with each number of entries and without an area, written again from their parts; and bare errors,
+/// the answer to a bad tag among them, which passes in the standard reading alone.
 fn made_frames(desk: &mut Desk, random: &mut Random) {
     let mut again = Again::new();
     for row in known::rows() {
@@ -199,12 +208,48 @@ fn made_frames(desk: &mut Desk, random: &mut Random) {
                     let make = if command { make::command } else { make::response };
                     make(&row, count.map(|_| entries.as_slice()), &random.bytes(parameters), random)
                 });
-                again.passing(Kind::Command, row.code, &command);
-                again.passing(Kind::Response, row.code, &response);
+                again.passing(READINGS, Kind::Command, row.code, &command);
+                again.passing(READINGS, Kind::Response, row.code, &response);
             }
         }
-        again.passing(Kind::Response, row.code, &make::fields(make::PLAIN, 10, 0x101));
+        for (readings, tag, code) in
+            [(READINGS, PLAIN, 0x101), (READINGS, PLAIN, BAD_TAG), (&[STANDARD], RSP_COMMAND, BAD_TAG)]
+        {
+            again.passing(readings, Kind::Response, row.code, &make::fields(tag, 10, code));
+        }
     }
     again.tell("write");
     desk.merge(&again.desk);
+}
+
+/// The code of the answer to a bad tag, those beside it, success, and others that read and do not: for commands with a row
+/// and without one, with up to nine sessions, in room around that of a bare header.
+fn bad_tag(desk: &mut Desk, pool: &Pool, random: &mut Random) {
+    let codes = [0, 1, BAD_TAG - 1, BAD_TAG, BAD_TAG + 1, 0x30, 0xC4, 0x101, 0x184, 0x922, 0x1000 | BAD_TAG, u32::MAX];
+    let rows = [0x144, 0x131].map(|code| known::row(code).expect("a row"));
+    let commands = rows.iter().flat_map(|row| [(row, row.code), (row, 0x197)]);
+    for ((row, cc), code) in commands.flat_map(|command| codes.map(|code| (command, code))) {
+        for count in 0..=9 {
+            good(desk, Kind::Response, row, (count, [1, 2]), pool, random);
+            (desk.case.cc, desk.case.number) = (cc, code);
+            (0..=12).for_each(|room| desk.ask_in(room));
+        }
+    }
+    for row in known::rows() {
+        good(desk, Kind::Response, &row, (0, [0, 0]), pool, random);
+        desk.case.number = BAD_TAG;
+        in_rooms(desk);
+    }
+}
+
+/// Each writer with numbers that name no mode, of what else would be written and would be refused.
+fn unnamed(desk: &mut Desk, pool: &Pool, random: &mut Random) {
+    let row = known::row(0x131).expect("a row");
+    for (kind, count) in Kind::ALL.iter().flat_map(|&kind| [0, 1, 4].map(|count| (kind, count))) {
+        good(desk, kind, &row, (count, [1, 2]), pool, random);
+        let numbers: Vec<u32> = by::unnamed(kind.modes()).collect();
+        in_rooms_by(desk, &numbers);
+        desk.case.cc = 0x197;
+        in_rooms_by(desk, &numbers);
+    }
 }

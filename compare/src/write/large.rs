@@ -2,6 +2,7 @@
 //! case can hold them, since what a case holds is copied for each call.
 
 use super::{Desk, Kind, rules, without_sessions};
+use crate::by::READINGS;
 use crate::calls::{self, Handed};
 use crate::judge::{CRATE, RULES};
 use crate::shown::came_to;
@@ -18,24 +19,30 @@ pub fn check(desk: &mut Desk) {
     let zeros = vec![0; LARGEST];
     for (more, kind) in [0, 1, 2, 10].iter().flat_map(|more| Kind::ALL.map(|kind| (more, kind))) {
         let given = without_sessions(&[], &zeros[..LARGEST - 10 + more]);
-        let ours = came_to(ROOM, |room, out| match kind {
-            Kind::Command => calls::command_write(0x8001, 0x144, given, room, out),
-            Kind::Response => calls::response_write(0, 0x144, given, room, out),
-        });
-        let rules = came_to(ROOM, |room, out| match kind {
-            Kind::Command => rules::command_write(0x8001, 0x144, given, room, out),
-            Kind::Response => rules::response_write(0, 0x144, given, room, out),
-        });
-        for (judge, right) in [(RULES, Some(rules)), (CRATE, by_crate(kind, given))] {
-            if let Some(right) = right.filter(|right| *right != ours) {
-                desk.tally(kind).differs_from(judge, &format!("a total of {}: {ours}, not {right}", LARGEST + more));
-            }
-        }
+        READINGS.iter().for_each(|&by| total(desk, by, kind, given));
     }
     println!("write: also commands and responses of a total of {LARGEST} and more");
 }
 
 const ROOM: usize = 12;
+
+/// The call in a mode, held to its judges.
+fn total(desk: &mut Desk, by: u32, kind: Kind, given: Handed) {
+    let ours = came_to(ROOM, |room, out| match kind {
+        Kind::Command => calls::command_write(by, 0x8001, 0x144, given, room, out),
+        Kind::Response => calls::response_write(by, 0, 0x144, given, room, out),
+    });
+    let rules = came_to(ROOM, |room, out| match kind {
+        Kind::Command => rules::command_write(by, 0x8001, 0x144, given, room, out),
+        Kind::Response => rules::response_write(by, 0, 0x144, given, room, out),
+    });
+    for (judge, right) in [(RULES, Some(rules)), (CRATE, by_crate(kind, given))] {
+        if let Some(right) = right.filter(|right| *right != ours) {
+            let total = 10 + given.parameters.len();
+            desk.tally(kind).differs_from(judge, &format!("a total of {total}: {ours}, not {right}"));
+        }
+    }
+}
 
 /// None where the total is not above the largest: then the room is short, of which the crate is not asked.
 #[cfg(oracle)]

@@ -1,6 +1,8 @@
-//! Document 01's order of checks from "Command writer" on, written out. It has an answer for every input.
+//! Document 01's order of checks from "Command writer" on, written out, with what document 02 adds to it for the standard
+//! mode: the answer to a bad tag. It has an answer for every input.
 
-use crate::calls::{Field, Handed, Out, Session};
+use crate::by::{MODES, READINGS};
+use crate::calls::{Field, Handed, Out, STANDARD_BAD_TAG, Session};
 use crate::frame::known::{self, Row};
 use crate::report::report;
 
@@ -16,6 +18,16 @@ fn refusal(number: u32, fields: [u64; 2]) -> Refusal {
 const PLAIN: u16 = 0x8001;
 const SESSIONS: u16 = 0x8002;
 
+/// The tag that Part 2 gives to the answer to a bad tag alone, and that answer's code.
+const RSP_COMMAND: u16 = 0x00C4;
+const BAD_TAG: u32 = 0x1E;
+
+/// Whether the tag of the answer to a bad tag is asked for: all that the modes differ in. A number that is none of a mode is
+/// refused before anything else.
+fn asks_bad_tag(by: u32, modes: &[u32]) -> Judged<bool> {
+    if modes.contains(&by) { Ok(by == STANDARD_BAD_TAG) } else { Err(refusal(101, [0, by.into()])) }
+}
+
 /// What the two kinds of frame differ in.
 struct Shape {
     tag: u16,
@@ -27,12 +39,13 @@ struct Shape {
 
 // ---- the order of checks
 
-pub fn command_write(tag: u16, cc: u32, given: Handed, room: &mut [u8], out: &mut Out) -> u32 {
-    let judged = command(tag, cc, &given).and_then(|shape| total(&shape, &given, room.len()));
+pub fn command_write(by: u32, tag: u16, cc: u32, given: Handed, room: &mut [u8], out: &mut Out) -> u32 {
+    let judged = command(by, tag, cc, &given).and_then(|shape| total(&shape, &given, room.len()));
     tell(judged.map(|total| lay_command(tag, cc, &given, Pen::new(room, total))), out)
 }
 
-fn command(tag: u16, cc: u32, given: &Handed) -> Judged<Shape> {
+fn command(by: u32, tag: u16, cc: u32, given: &Handed) -> Judged<Shape> {
+    asks_bad_tag(by, READINGS)?;
     let n = given.sessions.count;
     if tag != PLAIN && tag != SESSIONS {
         return Err(refusal(3, [0, tag.into()]));
@@ -44,28 +57,36 @@ fn command(tag: u16, cc: u32, given: &Handed) -> Judged<Shape> {
     Ok(Shape { tag, handles: row(cc)?.handles, width: 4 })
 }
 
-pub fn response_write(rc: u32, cc: u32, given: Handed, room: &mut [u8], out: &mut Out) -> u32 {
-    let judged = response(rc, cc, &given).and_then(|shape| match shape {
-        Some(shape) => total(&shape, &given, room.len()),
-        None => fitting(10, room.len()),
+pub fn response_write(by: u32, rc: u32, cc: u32, given: Handed, room: &mut [u8], out: &mut Out) -> u32 {
+    let judged = response(by, rc, cc, &given).and_then(|shape| {
+        // any code but success makes a bare header, and the other parts are ignored
+        let total = if rc == 0 { total(&shape, &given, room.len()) } else { fitting(10, room.len()) };
+        Ok((shape.tag, total?))
     });
-    tell(judged.map(|total| lay_response(rc, &given, Pen::new(room, total))), out)
+    tell(judged.map(|(tag, total)| lay_response(tag, rc, &given, Pen::new(room, total))), out)
 }
 
-/// None for a code other than success: the frame is a bare header, and the other parts are ignored.
-fn response(rc: u32, cc: u32, given: &Handed) -> Judged<Option<Shape>> {
+fn response(by: u32, rc: u32, cc: u32, given: &Handed) -> Judged<Shape> {
+    let asked = asks_bad_tag(by, MODES)?;
     let n = given.sessions.count;
     at_most_three(n)?;
-    let row = row(cc)?;
-    if !known::reads(rc) {
+    let handles = row(cc)?.responses;
+    let is_bad_tag = asked && rc == BAD_TAG;
+    if !known::reads(rc) && !is_bad_tag {
         return Err(refusal(5, [0, rc.into()]));
     }
-    match (rc, n) {
-        (0, 0) => Ok(Some(Shape { tag: PLAIN, handles: row.responses, width: 0 })),
-        (0, _) => Ok(Some(Shape { tag: SESSIONS, handles: row.responses, width: 0 })),
-        (_, 0) => Ok(None),
-        _ => Err(refusal(3, [0, SESSIONS.into()])),
+    if rc != 0 && n > 0 {
+        return Err(refusal(3, [0, SESSIONS.into()]));
     }
+    if asked && !is_bad_tag {
+        return Err(refusal(5, [0, rc.into()]));
+    }
+    let tag = match n {
+        _ if asked => RSP_COMMAND,
+        0 => PLAIN,
+        _ => SESSIONS,
+    };
+    Ok(Shape { tag, handles, width: 0 })
 }
 
 fn at_most_three(n: usize) -> Judged<()> {
@@ -191,16 +212,15 @@ fn lay_command(tag: u16, cc: u32, given: &Handed, mut pen: Pen) -> usize {
     pen.done()
 }
 
-fn lay_response(rc: u32, given: &Handed, mut pen: Pen) -> usize {
-    let sessions = looked_at(given);
-    pen.header(if sessions.is_empty() { PLAIN } else { SESSIONS }, rc);
+fn lay_response(tag: u16, rc: u32, given: &Handed, mut pen: Pen) -> usize {
+    pen.header(tag, rc);
     if rc == 0 {
         pen.put(given.handles);
-        if !sessions.is_empty() {
+        if tag == SESSIONS {
             pen.put(&(given.parameters.len() as u32).to_be_bytes());
         }
         pen.put(given.parameters);
-        sessions.iter().for_each(|session| pen.entry(session, given.lent));
+        looked_at(given).iter().for_each(|session| pen.entry(session, given.lent));
     }
     pen.done()
 }

@@ -255,69 +255,69 @@ skein-frame-set-tag : Single 2 skein-frame-set-tag-kinds.ps skein-frame-set-tag-
 skein-frame-set-tag κs a x y v w p q = (status (p .0) (q .0), λ i. (tt, ((p .1 ∙ sym (q .1)) i, (array (p .0) (q .0) i, tt))))
 
 skein-command-cast : Single 2 skein-command-cast-kinds.ps skein-command-cast-kinds.r skein-command-cast-reads.Post
-skein-command-cast κs a x y v w p q = (status p q, λ i. (tt, (array p q i, tt)))
+skein-command-cast κs a x y v w p q = (status p q, λ i. (tt, (tt, (array p q i, tt))))
 
 skein-command-handles : Single 2 skein-command-handles-kinds.ps skein-command-handles-kinds.r skein-command-handles-reads.Post
-skein-command-handles κs a x y v w p q = (status p q, λ i. (tt, (array p q i, tt)))
+skein-command-handles κs a x y v w p q = (status p q, λ i. (tt, (tt, (array p q i, tt))))
 
 skein-command-auth-area : Single 2 skein-command-auth-area-kinds.ps skein-command-auth-area-kinds.r skein-command-auth-area-reads.Post
-skein-command-auth-area κs a x y v w p q = (status p q, λ i. (tt, (array p q i, tt)))
+skein-command-auth-area κs a x y v w p q = (status p q, λ i. (tt, (tt, (array p q i, tt))))
 
 skein-command-parameters : Single 2 skein-command-parameters-kinds.ps skein-command-parameters-kinds.r skein-command-parameters-reads.Post
-skein-command-parameters κs a x y v w p q = (status p q, λ i. (tt, (array p q i, tt)))
+skein-command-parameters κs a x y v w p q = (status p q, λ i. (tt, (tt, (array p q i, tt))))
 
 skein-command-cast-prefix : Single 2 skein-command-cast-prefix-kinds.ps skein-command-cast-prefix-kinds.r skein-command-cast-prefix-reads.Post
-skein-command-cast-prefix κs a x y v w p q = (status p q, λ i. (tt, (array p q i, tt)))
+skein-command-cast-prefix κs a x y v w p q = (status p q, λ i. (tt, (tt, (array p q i, tt))))
 
 skein-command-validate : Single 2 skein-command-validate-kinds.ps skein-command-validate-kinds.r skein-command-validate-reads.Post
-skein-command-validate κs a x y v w p q = (status p q, λ i. (tt, (array p q i, tt)))
+skein-command-validate κs a x y v w p q = (status p q, λ i. (tt, (tt, (array p q i, tt))))
 
 skein-command-cc : Single 2 skein-command-cc-kinds.ps skein-command-cc-kinds.r skein-command-cc-reads.Post
-skein-command-cc κs a x y v w p q = (status p q, λ i. (tt, (array p q i, tt)))
+skein-command-cc κs a x y v w p q = (status p q, λ i. (tt, (tt, (array p q i, tt))))
 
 skein-command-set-cc : Single 2 skein-command-set-cc-kinds.ps skein-command-set-cc-kinds.r skein-command-set-cc-reads.Post
-skein-command-set-cc κs a x y v w p q = (status (p .0) (q .0), λ i. (tt, ((p .1 ∙ sym (q .1)) i, (array (p .0) (q .0) i, tt))))
+skein-command-set-cc κs a x y v w p q = (status (p .0) (q .0), λ i. (tt, (tt, ((p .1 ∙ sym (q .1)) i, (array (p .0) (q .0) i, tt)))))
 
 skein-command-parts : Single 2 skein-command-parts-kinds.ps skein-command-parts-kinds.r skein-command-parts-reads.Post
 skein-command-parts κs a x y v w p q = (
   λ i. record { refusal = status (p .0) (q .0) i; command = (p .1 ∙ sym (q .1)) i },
-  λ i. (tt, (array (p .0) (q .0) i, tt)),
+  λ i. (tt, (tt, (array (p .0) (q .0) i, tt))),
 )
 
 skein-command-write : Single 5 skein-command-write-kinds.ps skein-command-write-kinds.r skein-command-write-reads.Post
 skein-command-write κs a x y v w p q = (
   status (p .0) (q .0),
-  λ i. (tt, (tt, (tt, (tt, (tt, (tt, ((p .1 ∙ sym (q .1)) i, (array (p .0) (q .0) i, tt)))))))),
+  λ i. (tt, (tt, (tt, (tt, (tt, (tt, (tt, ((p .1 ∙ sym (q .1)) i, (array (p .0) (q .0) i, tt))))))))),
 )
 
 skein-response-cast : Single 2 skein-response-cast-kinds.ps skein-response-cast-kinds.r skein-response-cast-reads.Post
-skein-response-cast κs a x y v w p q = (status p q, λ i. (tt, (array p q i, tt)))
+skein-response-cast κs a x y v w p q = (status p q, λ i. (tt, (tt, (array p q i, tt))))
 
 skein-response-cast-prefix : Single 2 skein-response-cast-prefix-kinds.ps skein-response-cast-prefix-kinds.r skein-response-cast-prefix-reads.Post
-skein-response-cast-prefix κs a x y v w p q = (status p q, λ i. (tt, (array p q i, tt)))
+skein-response-cast-prefix κs a x y v w p q = (status p q, λ i. (tt, (tt, (array p q i, tt))))
 
 skein-response-rc : Single 2 skein-response-rc-kinds.ps skein-response-rc-kinds.r skein-response-rc-reads.Post
-skein-response-rc κs a x y v w p q = (status p q, λ i. (tt, (array p q i, tt)))
+skein-response-rc κs a x y v w p q = (status p q, λ i. (tt, (tt, (array p q i, tt))))
 
 skein-response-body : Single 2 skein-response-body-kinds.ps skein-response-body-kinds.r skein-response-body-reads.Post
 skein-response-body κs a x y v w p q = (status p q, λ i. (tt, (array p q i, tt)))
 
 skein-response-validate : Single 2 skein-response-validate-kinds.ps skein-response-validate-kinds.r skein-response-validate-reads.Post
-skein-response-validate κs a x y v w p q = (status p q, λ i. (tt, (tt, (array p q i, tt))))
+skein-response-validate κs a x y v w p q = (status p q, λ i. (tt, (tt, (tt, (array p q i, tt)))))
 
 skein-response-set-rc : Single 2 skein-response-set-rc-kinds.ps skein-response-set-rc-kinds.r skein-response-set-rc-reads.Post
-skein-response-set-rc κs a x y v w p q = (status (p .0) (q .0), λ i. (tt, ((p .1 ∙ sym (q .1)) i, (array (p .0) (q .0) i, tt))))
+skein-response-set-rc κs a x y v w p q = (status (p .0) (q .0), λ i. (tt, (tt, ((p .1 ∙ sym (q .1)) i, (array (p .0) (q .0) i, tt)))))
 
 skein-response-parts : Single 2 skein-response-parts-kinds.ps skein-response-parts-kinds.r skein-response-parts-reads.Post
 skein-response-parts κs a x y v w p q = (
   λ i. record { refusal = status (p .0) (q .0) i; response = (p .1 ∙ sym (q .1)) i },
-  λ i. (tt, (tt, (array (p .0) (q .0) i, tt))),
+  λ i. (tt, (tt, (tt, (array (p .0) (q .0) i, tt)))),
 )
 
 skein-response-write : Single 5 skein-response-write-kinds.ps skein-response-write-kinds.r skein-response-write-reads.Post
 skein-response-write κs a x y v w p q = (
   status (p .0) (q .0),
-  λ i. (tt, (tt, (tt, (tt, (tt, (tt, ((p .1 ∙ sym (q .1)) i, (array (p .0) (q .0) i, tt)))))))),
+  λ i. (tt, (tt, (tt, (tt, (tt, (tt, (tt, ((p .1 ∙ sym (q .1)) i, (array (p .0) (q .0) i, tt))))))))),
 )
 
 skein-command-write-array : SingleBy of-skein-command-write-array.ended (λ M 𝓤 H. of-skein-command-write-array.clauses 𝓤 H) (λ κs x y. x ≡ y)
@@ -326,7 +326,7 @@ skein-command-write-array = record {
   says = λ 𝓤 H A mem run κs a g r s. both 𝓤 _ _;
   once = λ κs a x y v w p q. (
     status (p .0) (q .0),
-    λ i. (tt, (tt, (tt, (tt, (tt, (tt, ((p .1 ∙ sym (q .1)) i, (array (p .0) (q .0) i, tt)))))))),
+    λ i. (tt, (tt, (tt, (tt, (tt, (tt, (tt, ((p .1 ∙ sym (q .1)) i, (array (p .0) (q .0) i, tt))))))))),
   );
 }
 
@@ -336,6 +336,6 @@ skein-response-write-array = record {
   says = λ 𝓤 H A mem run κs a g r s. both 𝓤 _ _;
   once = λ κs a x y v w p q. (
     status (p .0) (q .0),
-    λ i. (tt, (tt, (tt, (tt, (tt, (tt, ((p .1 ∙ sym (q .1)) i, (array (p .0) (q .0) i, tt)))))))),
+    λ i. (tt, (tt, (tt, (tt, (tt, (tt, (tt, ((p .1 ∙ sym (q .1)) i, (array (p .0) (q .0) i, tt))))))))),
   );
 }

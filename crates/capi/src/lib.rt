@@ -13,4 +13,5 @@ pub mod field;
 pub mod header;
 mod out;
 pub mod response;
+mod rules;
 pub mod tpm2b;

@@ -3,16 +3,21 @@ ghost use mathlib.Core.Path.{_≡_};
 ghost use lib.ListN.{length};
 ghost use Rattle.base.specs.Parts.{upTo};
 ghost use Rattle.base.specs.Said.{after, done};
-ghost use Rattle.table.specs.Dispatch.{dispatch};
 ghost use Rattle.frame.specs.Answer.{responseByValue, whole};
 ghost use Rattle.frame.specs.Header.{readRc, setRc};
 ghost use Rattle.frame.specs.Response.{bodyRange, castResponse, castResponsePrefix, readResponse};
 ghost use Rattle.marshal.specs.Handed.{handed};
 ghost use Rattle.marshal.specs.Write.{counted, roomAfter, writeResponse};
 ghost use Rattle.capi.specs.Frame.{noResponse, partAndTail};
+ghost use Rattle.capi.specs.Rules.{under, underMode};
 ghost use Rattle.capi.specs.Out.{Reports, ends, none, one};
 use crate::out;
 use crate::out::Numbers;
+use crate::rules::Named;
+use crate::rules::NamedMode;
+use crate::rules::UNKNOWN;
+use crate::rules::mode_named;
+use crate::rules::rules_named;
 use base::code::TpmCc;
 use base::code::TpmRc;
 use base::code::TpmSt;
@@ -22,40 +27,55 @@ use frame::response::ResponseRead;
 use frame::session::Entries;
 
 #[no_mangle]
-pub extern "C" fn skein_response_cast(s: &[u8], out: &mut Numbers) -> u32
-    ensures { λ r. ⌜ Reports ends (whole (now (s .entry)) (castResponse (now (s .entry)))) (now (out .entry)) (now (out .exit)) r ⌝ }
+pub extern "C" fn skein_response_cast(rules: u32, s: &[u8], out: &mut Numbers) -> u32
+    ensures { λ r. ⌜ Reports ends (under rules λ book. whole (now (s .entry)) (castResponse book (now (s .entry)))) (now (out .entry)) (now (out .exit)) r ⌝ }
 {
-    out::range(frame::response::cast_range(s), out)
+    match rules_named(rules) {
+        Named::Unknown(n) => out::two(UNKNOWN, 0, n as u64, out),
+        Named::Is(by) => out::range(frame::response::cast_range(by, s), out),
+    }
 }
 
 // Where the response at the start stands, and where what is behind it.
 #[no_mangle]
-pub extern "C" fn skein_response_cast_prefix(s: &[u8], out: &mut Numbers) -> u32
-    ensures { λ r. ⌜ Reports (partAndTail (length (now (s .entry)))) (upTo (castResponsePrefix (now (s .entry)))) (now (out .entry)) (now (out .exit)) r ⌝ }
+pub extern "C" fn skein_response_cast_prefix(rules: u32, s: &[u8], out: &mut Numbers) -> u32
+    ensures { λ r. ⌜ Reports (partAndTail (length (now (s .entry)))) (under rules λ book. upTo (castResponsePrefix book (now (s .entry)))) (now (out .entry)) (now (out .exit)) r ⌝ }
 {
-    out::with_tail(frame::response::cast_prefix_range(s), s.len(), out)
+    match rules_named(rules) {
+        Named::Unknown(n) => out::two(UNKNOWN, 0, n as u64, out),
+        Named::Is(by) => out::with_tail(frame::response::cast_prefix_range(by, s), s.len(), out),
+    }
 }
 
 #[no_mangle]
-pub extern "C" fn skein_response_validate(cc: u32, s: &[u8], out: &mut Numbers) -> u32
-    ensures { λ r. ⌜ Reports none (done (readResponse dispatch cc (now (s .entry)))) (now (out .entry)) (now (out .exit)) r ⌝ }
+pub extern "C" fn skein_response_validate(rules: u32, cc: u32, s: &[u8], out: &mut Numbers) -> u32
+    ensures { λ r. ⌜ Reports none (under rules λ book. done (readResponse book cc (now (s .entry)))) (now (out .entry)) (now (out .exit)) r ⌝ }
 {
-    out::outcome(frame::response::validate(TpmCc(cc), s), out)
+    match rules_named(rules) {
+        Named::Unknown(n) => out::two(UNKNOWN, 0, n as u64, out),
+        Named::Is(by) => out::outcome(frame::response::validate(by, TpmCc(cc), s), out),
+    }
 }
 
 #[no_mangle]
-pub extern "C" fn skein_response_rc(s: &[u8], out: &mut Numbers) -> u32
-    ensures { λ r. ⌜ Reports one (readRc (now (s .entry))) (now (out .entry)) (now (out .exit)) r ⌝ }
+pub extern "C" fn skein_response_rc(rules: u32, s: &[u8], out: &mut Numbers) -> u32
+    ensures { λ r. ⌜ Reports one (under rules λ book. readRc book (now (s .entry))) (now (out .entry)) (now (out .exit)) r ⌝ }
 {
-    out::response_code(frame::response::rc(s), out)
+    match rules_named(rules) {
+        Named::Unknown(n) => out::two(UNKNOWN, 0, n as u64, out),
+        Named::Is(by) => out::response_code(frame::response::rc(by, s), out),
+    }
 }
 
 #[no_mangle]
-pub extern "C" fn skein_response_set_rc(rc: u32, s: &mut [u8], out: &mut Numbers) -> u32
-    ensures { λ r. ⌜ Reports none (done (setRc rc (now (s .entry)))) (now (out .entry)) (now (out .exit)) r ⌝ }
-    ensures { λ r. ⌜ now (s .exit) ≡ after (now (s .entry)) (setRc rc (now (s .entry))) ⌝ }
+pub extern "C" fn skein_response_set_rc(rules: u32, rc: u32, s: &mut [u8], out: &mut Numbers) -> u32
+    ensures { λ r. ⌜ Reports none (under rules λ book. done (setRc book rc (now (s .entry)))) (now (out .entry)) (now (out .exit)) r ⌝ }
+    ensures { λ r. ⌜ now (s .exit) ≡ after (now (s .entry)) (under rules λ book. setRc book rc (now (s .entry))) ⌝ }
 {
-    out::outcome(frame::response::set_rc(s, TpmRc(rc)), out)
+    match rules_named(rules) {
+        Named::Unknown(n) => out::two(UNKNOWN, 0, n as u64, out),
+        Named::Is(by) => out::outcome(frame::response::set_rc(by, s, TpmRc(rc)), out),
+    }
 }
 
 #[no_mangle]
@@ -87,18 +107,29 @@ fn no_response() -> Response
 }
 
 #[no_mangle]
-pub extern "C" fn skein_response_parts(cc: u32, s: &[u8], out: &mut Numbers) -> ResponseParts
-    ensures { λ r. ⌜ Reports none (responseByValue (now (s .entry)) (readResponse dispatch cc (now (s .entry)))) (now (out .entry)) (now (out .exit)) (r .refusal) ⌝ }
-    ensures { λ r. ⌜ r .response ≡ after noResponse (responseByValue (now (s .entry)) (readResponse dispatch cc (now (s .entry)))) ⌝ }
+pub extern "C" fn skein_response_parts(
+    rules: u32,
+    cc: u32,
+    s: &[u8],
+    out: &mut Numbers,
+) -> ResponseParts
+    ensures { λ r. ⌜ Reports none (under rules λ book. responseByValue (now (s .entry)) (readResponse book cc (now (s .entry)))) (now (out .entry)) (now (out .exit)) (r .refusal) ⌝ }
+    ensures { λ r. ⌜ r .response ≡ after noResponse (under rules λ book. responseByValue (now (s .entry)) (readResponse book cc (now (s .entry)))) ⌝ }
 {
-    match frame::response::parts(TpmCc(cc), s) {
-        ResponseRead::Refused(e) => ResponseParts {
-            refusal: out::refuse(e, out),
+    match rules_named(rules) {
+        Named::Unknown(n) => ResponseParts {
+            refusal: out::two(UNKNOWN, 0, n as u64, out),
             response: no_response(),
         },
-        ResponseRead::Is(response) => ResponseParts {
-            refusal: 0,
-            response,
+        Named::Is(by) => match frame::response::parts(by, TpmCc(cc), s) {
+            ResponseRead::Refused(e) => ResponseParts {
+                refusal: out::refuse(e, out),
+                response: no_response(),
+            },
+            ResponseRead::Is(response) => ResponseParts {
+                refusal: 0,
+                response,
+            },
         },
     }
 }
@@ -106,6 +137,7 @@ pub extern "C" fn skein_response_parts(cc: u32, s: &[u8], out: &mut Numbers) -> 
 // Writes a response to the command cc, with the response code rc.
 #[no_mangle]
 pub extern "C" fn skein_response_write(
+    rules: u32,
     rc: u32,
     cc: u32,
     handles: &[u8],
@@ -115,17 +147,23 @@ pub extern "C" fn skein_response_write(
     room: &mut [u8],
     out: &mut Numbers,
 ) -> u32
-    ensures { λ r. ⌜ Reports one (counted (writeResponse dispatch cc rc (handed (now (handles .entry)) sessions (now (lent .entry)) (now (parameters .entry))) (length (now (room .entry))))) (now (out .entry)) (now (out .exit)) r ⌝ }
-    ensures { λ r. ⌜ now (room .exit) ≡ roomAfter (now (room .entry)) (writeResponse dispatch cc rc (handed (now (handles .entry)) sessions (now (lent .entry)) (now (parameters .entry))) (length (now (room .entry)))) ⌝ }
+    ensures { λ r. ⌜ Reports one (underMode rules λ book asked. counted (writeResponse book asked cc rc (handed (now (handles .entry)) sessions (now (lent .entry)) (now (parameters .entry))) (length (now (room .entry))))) (now (out .entry)) (now (out .exit)) r ⌝ }
+    ensures { λ r. ⌜ now (room .exit) ≡ roomAfter (now (room .entry)) (underMode rules λ book asked. writeResponse book asked cc rc (handed (now (handles .entry)) sessions (now (lent .entry)) (now (parameters .entry))) (length (now (room .entry)))) ⌝ }
 {
-    let written = marshal::response::write(
-        TpmRc(rc),
-        TpmCc(cc),
-        handles,
-        sessions,
-        lent,
-        parameters,
-        room,
-    );
-    out::count(written, out)
+    match mode_named(rules) {
+        NamedMode::Unknown(n) => out::two(UNKNOWN, 0, n as u64, out),
+        NamedMode::Is(by) => {
+            let written = marshal::response::write(
+                by,
+                TpmRc(rc),
+                TpmCc(cc),
+                handles,
+                sessions,
+                lent,
+                parameters,
+                room,
+            );
+            out::count(written, out)
+        }
+    }
 }

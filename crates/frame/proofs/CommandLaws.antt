@@ -1,5 +1,4 @@
--- A command passes exactly where it is the layout of well-formed parts, over any rows and any list of known codes that holds
--- theirs; the parts read are those laid out.
+-- A command passes exactly where it is the layout of well-formed parts, over any rules whose known codes hold the rows'; the parts read are those laid out.
 -- Assumes nothing.
 use mathlib.Core.Path.{_≡_, refl, sym, _∙_, ap, subst}
 use mathlib.Core.Bool.{true, false}
@@ -27,9 +26,10 @@ use Rattle.frame.specs.declared.session.Session.{Session}
 use Rattle.frame.specs.Answer.{commandOf, frameOf, commandByValue}
 use Rattle.frame.specs.Areas.{sizedArea}
 use Rattle.frame.specs.Command.{Division, commandHandles, commandAreas, judgeCommand, castCommand, readCommand, handlesRange, authRange, parametersRange}
-use Rattle.frame.specs.Header.{tagOf, sizeOf, codeOf, sessions, isOfTwo, readCc, frameWhole, readFrameTag}
+use Rattle.frame.specs.Header.{tagOf, sizeOf, codeOf, sessions, isOfTwo, readCc, frameWhole, readCommandTag}
 use Rattle.frame.specs.Layout.{Frame, WholeEntries, WellFormed, CommandParts, layoutEntries, layoutBody, layoutFrame, layoutCommand}
 use Rattle.frame.specs.Parts.{ranged, entriesIn, entriesOf, told, commandParts}
+use Rattle.frame.specs.Rules.{Rulebook}
 use Rattle.frame.specs.Walk.{walk, byValue}
 use Rattle.frame.proofs.Divides.{Divides, divides-by-value}
 use Rattle.frame.proofs.Divisions.{entries-of}
@@ -57,7 +57,7 @@ use Rattle.frame.proofs.FrameLaws.{
 use Rattle.frame.proofs.Standing.{between-at, at-between, at-within, at-inside, length-entries}
 use Rattle.frame.proofs.WalkLaws.{walk-sound, walk-few, walk-complete, walk-within, walk-end}
 
-module _ (rows : List Row) (known : List ℕ) where
+module _ (book : Rulebook) where
   -- the steps of a reading that passed
   record Steps (s : List ℕ) (d : Division) : Type 0 where
     row : Row
@@ -65,27 +65,27 @@ module _ (rows : List Row) (known : List ℕ) where
     size-is : sizeOf s ≡ length s
     tag-two : isOfTwo (tagOf s) ≡ true
     tag-known : isIn (tagOf s) tags ≡ true
-    code-known : isIn (codeOf s) known ≡ true
-    has-row : rowFor rows (codeOf s) ≡ gives row
+    code-known : isIn (codeOf s) (book .known) ≡ true
+    has-row : rowFor (book .rows) (codeOf s) ≡ gives row
     room : 10 + 4 * row .handles ≤ length s
     sized : sizedArea (eqb (tagOf s) sessions) (10 + 4 * row .handles) s (10 + 4 * row .handles) ≡ gives (d .areas)
     walked : walk 3 4 (take (d .areas .to) s) (d .areas .from) ≡ gives (d .entries)
 
-  steps-taken : (s : List ℕ) (d : Division) → readCommand rows known s ≡ gives d → Steps s d
+  steps-taken : (s : List ℕ) (d : Division) → readCommand book s ≡ gives d → Steps s d
   unfolding readCommand castCommand judgeCommand commandAreas commandHandles readCc
   steps-taken s d e =
-      let read = then-gives (castCommand rows known s) _ e in
+      let read = then-gives (castCommand book s) _ e in
       let areas : Areas = read .0 in
       let walked = then-gives (walk 3 4 (take (areas .to) s) (areas .from)) _ (read .2) in
       let cast = then-gives (frameWhole s) _ (read .1) in
-      let judged = then-gives (readFrameTag s) _ (cast .2) in
-      let handled = then-gives (commandHandles rows known s) _ (judged .2) in
+      let judged = then-gives (readCommandTag s) _ (cast .2) in
+      let handled = then-gives (commandHandles book s) _ (judged .2) in
       let tagged = needs-gives (isIn (tagOf s) tags) _ _ (handled .2) in
-      let coded = then-gives (readCc known s) _ (handled .1) in
+      let coded = then-gives (readCc book s) _ (handled .1) in
       let header = needs-gives (leb 10 (length s)) _ _ (coded .1) in
-      let listed = needs-gives (isIn (codeOf s) known) _ _ (header .1) in
+      let listed = needs-gives (isIn (codeOf s) (book .known)) _ _ (header .1) in
       let code : codeOf s ≡ coded .0 = gives-injective (listed .1) in
-      let found = then-gives (rowFor rows (coded .0)) _ (coded .2) in
+      let found = then-gives (rowFor (book .rows) (coded .0)) _ (coded .2) in
       let whole = whole-sound s (cast .1) in
       let handles = handles-sound s (found .0 .handles) (whole .0) (found .2) in
       subst (Steps s) (gives-injective (walked .2))
@@ -96,21 +96,21 @@ module _ (rows : List Row) (known : List ℕ) where
         tag-two = tag-sound s (judged .1);
         tag-known = tagged .0;
         code-known = listed .0;
-        has-row = ap (rowFor rows) code ∙ found .1;
+        has-row = ap (rowFor (book .rows)) code ∙ found .1;
         room = handles .1;
         sized = ap (λ (h : ℕ). sizedArea (eqb (tagOf s) sessions) h s h) (sym (handles .0)) ∙ tagged .1;
         walked = walked .1;
       })
 
-  handles-pass : (s : List ℕ) (d : Division) (t : Steps s d) → commandHandles rows known s ≡ gives (10 + 4 * t .row .handles)
+  handles-pass : (s : List ℕ) (d : Division) (t : Steps s d) → commandHandles book s ≡ gives (10 + 4 * t .row .handles)
   unfolding commandHandles readCc
   handles-pass s d t = rw (le-leb 10 (length s) (t .ten), t .code-known, t .has-row) (handles-complete s (t .row .handles) (t .room))
 
-  areas-pass : (s : List ℕ) (d : Division) → Steps s d → commandAreas rows known s ≡ gives (d .areas)
+  areas-pass : (s : List ℕ) (d : Division) → Steps s d → commandAreas book s ≡ gives (d .areas)
   unfolding commandAreas
   areas-pass s d t = rw (handles-pass s d t, t .tag-known) (t .sized)
 
-  steps-pass : (s : List ℕ) (d : Division) → Steps s d → readCommand rows known s ≡ gives d
+  steps-pass : (s : List ℕ) (d : Division) → Steps s d → readCommand book s ≡ gives d
   unfolding readCommand castCommand judgeCommand commandAreas commandHandles readCc
   steps-pass s d t =
       rw (whole-complete s (t .ten) (t .size-is), tag-complete s (t .ten) (t .tag-two), le-leb 10 (length s) (t .ten))
@@ -125,7 +125,7 @@ module _ (rows : List Row) (known : List ℕ) where
   all-entries : (s : List ℕ) (d : Division) → Steps s d → entriesOf (byValue (d .entries)) ≡ d .entries
   all-entries s d t = entries-of (d .entries) (walk-few 3 4 (take (d .areas .to) s) (d .areas .from) (t .walked))
 
-  parts-told : (s : List ℕ) (d : Division) → readCommand rows known s ≡ gives d → commandParts s (frameOf commandOf s d) ≡ parts s d
+  parts-told : (s : List ℕ) (d : Division) → readCommand book s ≡ gives d → commandParts s (frameOf commandOf s d) ≡ parts s d
   unfolding commandParts
   parts-told s d e =
       let c : Command = frameOf commandOf s d in
@@ -165,8 +165,8 @@ module _ (rows : List Row) (known : List ℕ) where
         let walked = rw within at (walk-sound 3 4 (take to s) from (are-bytes-take to s p) inside (t .walked)) in
         (at-within to s (walked .0), walked .1 ∙ short, walked .2)
 
-  pub command-sound : (s : List ℕ) → AreBytes s → (d : Division) → readCommand rows known s ≡ gives d
-      → CommandParts rows (parts s d) × (layoutCommand (parts s d) ≡ s)
+  pub command-sound : (s : List ℕ) → AreBytes s → (d : Division) → readCommand book s ≡ gives d
+      → CommandParts book (parts s d) × (layoutCommand (parts s d) ≡ s)
   unfolding layoutCommand
   command-sound s p d e =
       let t = steps-taken s d e in
@@ -204,11 +204,11 @@ module _ (rows : List Row) (known : List ℕ) where
       )
 
   -- what is given back as the authorization area is the layout of the entries
-  pub command-auth : (s : List ℕ) → AreBytes s → (c : Command) → commandByValue s (readCommand rows known s) ≡ gives c
+  pub command-auth : (s : List ℕ) → AreBytes s → (c : Command) → commandByValue s (readCommand book s) ≡ gives c
       → heldAt (c .auth) s ≡ layoutEntries 4 (commandParts s c .entries)
   unfolding commandParts
   command-auth s p c e =
-      let read = then-gives (readCommand rows known s) _ e in
+      let read = then-gives (readCommand book s) _ e in
       let d : Division = read .0 in
       let t = steps-taken s d (read .1) in
       let stand = entries-stand s p d t in
@@ -216,33 +216,33 @@ module _ (rows : List Row) (known : List ℕ) where
       (between-at (d .areas .to) (stand .0) (stand .1) ∙ ap (λ (es : List Session). layoutEntries 4 (entriesIn s es)) (sym (all-entries s d t)))
 
   -- the three reads of one area give the areas of a passing command
-  pub command-ranges : (s : List ℕ) (c : Command) → commandByValue s (readCommand rows known s) ≡ gives c
-      → (handlesRange rows known s ≡ gives (ranged (c .handles)))
-      × (authRange rows known s ≡ gives (ranged (c .auth)))
-      × (parametersRange rows known s ≡ gives (ranged (c .parameters)))
+  pub command-ranges : (s : List ℕ) (c : Command) → commandByValue s (readCommand book s) ≡ gives c
+      → (handlesRange book s ≡ gives (ranged (c .handles)))
+      × (authRange book s ≡ gives (ranged (c .auth)))
+      × (parametersRange book s ≡ gives (ranged (c .parameters)))
   unfolding handlesRange authRange parametersRange
   command-ranges s c e =
-      let read = then-gives (readCommand rows known s) _ e in
+      let read = then-gives (readCommand book s) _ e in
       let d : Division = read .0 in
       let t = steps-taken s d (read .1) in
-      let handles : commandHandles rows known s ≡ gives (10 + 4 * t .row .handles) = handles-pass s d t in
-      let areas : commandAreas rows known s ≡ gives (d .areas) = areas-pass s d t in
+      let handles : commandHandles book s ≡ gives (10 + 4 * t .row .handles) = handles-pass s d t in
+      let areas : commandAreas book s ≡ gives (d .areas) = areas-pass s d t in
       let same : d .areas .handles ≡ 10 + 4 * t .row .handles =
       sized-order (eqb (tagOf s) sessions) (10 + 4 * t .row .handles) (10 + 4 * t .row .handles) s (omega arith) (t .room) (t .sized) .0 in
       rw (← gives-injective (read .2), handles, areas, same) (refl, refl, refl)
 
   -- ---- the layout of well-formed parts passes, and they are the parts read
 
-  module _ (holds : (code : ℕ) (r : Row) → rowFor rows code ≡ gives r → isIn code known ≡ true)
+  module _ (holds : (code : ℕ) (r : Row) → rowFor (book .rows) code ≡ gives r → isIn code (book .known) ≡ true)
       (two-tags : (tag : ℕ) → isOfTwo tag ≡ true → isIn tag tags ≡ true) where
-    module _ (f : Frame) (row : Row) (found : rowFor rows (f .code) ≡ gives row) (w : WellFormed 4 (row .handles) f) (s : List ℕ)
+    module _ (f : Frame) (row : Row) (found : rowFor (book .rows) (f .code) ≡ gives row) (w : WellFormed 4 (row .handles) f) (s : List ℕ)
         (framed : Framed s (f .tag) (f .code) (layoutBody (f .tag) (f .handles) (layoutEntries 4 (f .entries)) (f .parameters))) where
       module _ (areas : Areas) (held : Holds s areas (f .handles) (layoutEntries 4 (f .entries)) (f .parameters))
           (sized : sizedArea (eqb (f .tag) sessions) (10 + 4 * row .handles) s (10 + 4 * row .handles) ≡ gives areas) where
         -- from where the parts stand to the division
         with-entries : (ds : List Session) → walk 3 4 (take (areas .to) s) (areas .from) ≡ gives ds
             → areas .from ≤ length (take (areas .to) s) → entriesIn (take (areas .to) s) ds ≡ f .entries
-            → (d : Division) × (readCommand rows known s ≡ gives d) × (parts s d ≡ f)
+            → (d : Division) × (readCommand book s ≡ gives d) × (parts s d ≡ f)
         with-entries ds walked inside same =
             let within : entriesIn (take (areas .to) s) ds ≡ entriesIn s ds = walk-within 3 4 (areas .to) s (areas .from) inside walked in
             let d : Division = record { areas = areas; entries = ds } in
@@ -270,7 +270,7 @@ module _ (rows : List Row) (known : List ℕ) where
               }),
             )
 
-        with-areas : (d : Division) × (readCommand rows known s ≡ gives d) × (parts s d ≡ f)
+        with-areas : (d : Division) × (readCommand book s ≡ gives d) × (parts s d ≡ f)
         with-areas =
             let from : ℕ = areas .from in
             let to : ℕ = areas .to in
@@ -280,8 +280,8 @@ module _ (rows : List Row) (known : List ℕ) where
             let walked = walk-complete 3 4 (take to s) from (f .entries) (w .whole-entries) (w .three-entries) entries-at ends in
             with-entries (walked .0) (walked .1) (omega arith) (walked .2)
 
-    pub command-complete : (f : Frame) → CommandParts rows f
-        → (d : Division) × (readCommand rows known (layoutCommand f) ≡ gives d) × (parts (layoutCommand f) d ≡ f)
+    pub command-complete : (f : Frame) → CommandParts book f
+        → (d : Division) × (readCommand book (layoutCommand f) ≡ gives d) × (parts (layoutCommand f) d ≡ f)
     unfolding layoutCommand
     command-complete f c =
         let w = c .well-formed in
@@ -299,7 +299,7 @@ module _ (rows : List Row) (known : List ℕ) where
 
     -- ---- and so of what is given back by value
 
-    pub command-divides : Divides (λ s. commandByValue s (readCommand rows known s)) commandParts layoutCommand (CommandParts rows)
+    pub command-divides : Divides (λ s. commandByValue s (readCommand book s)) commandParts layoutCommand (CommandParts book)
     command-divides =
-        divides-by-value (readCommand rows known) parts layoutCommand (CommandParts rows) (frameOf commandOf) commandParts
+        divides-by-value (readCommand book) parts layoutCommand (CommandParts book) (frameOf commandOf) commandParts
         parts-told command-sound command-complete

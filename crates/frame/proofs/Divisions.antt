@@ -1,7 +1,7 @@
 -- The cases of the areas and of the reads of commands and responses, each from the tests that lead to it.
 -- Assumes nothing.
 use mathlib.Core.Path.{_≡_, refl, sym, _∙_, ap}
-use mathlib.Core.Bool.{Bool, true, false, cond}
+use mathlib.Core.Bool.{Bool, true, false, _||_, cond}
 use mathlib.Core.List.{List, [], _∷_}
 use Prim.Native.Nat.{ℕ, _+_, _-_, _*_, _≤_, _<_}
 use native.Mathlib.Omega.{arith}
@@ -21,13 +21,14 @@ use Rattle.frame.specs.declared.session.Entries.{Entries}
 use Rattle.frame.specs.Answer.{areasOf, entriesByValue, frameOf}
 use Rattle.frame.specs.Areas.{handleArea, sizedArea}
 use Rattle.frame.specs.Command.{Division, commandHandles, commandAreas, judgeCommand, castCommand}
-use Rattle.frame.specs.Header.{tagOf, codeOf, sessions, plain, readCc, frameWhole, readFrameTag}
+use Rattle.frame.specs.Header.{tagOf, codeOf, sessions, plain, isRspCommand, readCc, frameWhole, readCommandTag}
 use Rattle.frame.specs.Parts.{entriesOf}
 use Rattle.frame.specs.Response.{castResponse, errorAreas, successAreas, responseAreas}
+use Rattle.frame.specs.Rules.{Rulebook}
 use Rattle.frame.specs.Walk.{walk, byValue}
 use Rattle.frame.proofs.FrameLaws.{sized-order, two-tags}
 use Rattle.frame.proofs.Walks.{field-there, step-refused, step-given}
-use Rattle.frame.proofs.Headers.{frame-tag-is, whole-fits}
+use Rattle.frame.proofs.Headers.{command-tag-is, whole-fits}
 
 -- ---- the areas
 
@@ -79,98 +80,102 @@ module _ (end : ℕ) (s : List ℕ) (p : ℕ) where
 
 -- ---- commands
 
-module _ (rows : List Row) (known : List ℕ) (s : List ℕ) where
-  pub command-header : {p : ℕ} → gives p ≡ commandHandles rows known s → (10 ≤ length s) × (10 ≤ p) × (p ≤ length s)
+module _ (book : Rulebook) (s : List ℕ) where
+  pub command-header : {p : ℕ} → gives p ≡ commandHandles book s → (10 ≤ length s) × (10 ≤ p) × (p ≤ length s)
   unfolding commandHandles readCc
   command-header e =
-      let code = then-gives (readCc known s) _ (sym e) in
+      let code = then-gives (readCc book s) _ (sym e) in
       let there = needs-gives (leb 10 (length s)) _ _ (code .1) in
-      let row = then-gives (rowFor rows (code .0)) _ (code .2) in
+      let row = then-gives (rowFor (book .rows) (code .0)) _ (code .2) in
       let ten = leb-true 10 (length s) (there .0) in
       let fits = handles-fit (row .0 .handles) s ten (sym (row .2)) in
       (ten, fits .0, fits .1)
 
-  module _ {p : ℕ} (e : gives p ≡ commandHandles rows known s) where
-    pub areas-tag-refused : {n : ℕ} → n ≡ tagOf s → isIn n tags ≡ false → refuses (3 ∷ 0 ∷ n ∷ []) ≡ commandAreas rows known s
+  module _ {p : ℕ} (e : gives p ≡ commandHandles book s) where
+    pub areas-tag-refused : {n : ℕ} → n ≡ tagOf s → isIn n tags ≡ false → refuses (3 ∷ 0 ∷ n ∷ []) ≡ commandAreas book s
     unfolding commandAreas
     areas-tag-refused {n} is unknown =
         rw is (fails (isIn (tagOf s) tags) _ (sizedArea (eqb (tagOf s) sessions) p s p) (rw (← is) unknown))
-        ∙ goes-on (commandHandles rows known s) _ e
+        ∙ goes-on (commandHandles book s) _ e
 
-    pub areas-sized : {n : ℕ} → n ≡ tagOf s → isIn n tags ≡ true → sizedArea (eqb n sessions) p s p ≡ commandAreas rows known s
+    pub areas-sized : {n : ℕ} → n ≡ tagOf s → isIn n tags ≡ true → sizedArea (eqb n sessions) p s p ≡ commandAreas book s
     unfolding commandAreas
     areas-sized {n} is member =
         rw is (passes (isIn (tagOf s) tags) _ (sizedArea (eqb (tagOf s) sessions) p s p) (rw (← is) member))
-        ∙ goes-on (commandHandles rows known s) _ e
+        ∙ goes-on (commandHandles book s) _ e
 
   -- a tag of the two is known, so the areas go on from the handles
-  pub judged-sized : {tag p : ℕ} → gives tag ≡ readFrameTag s → gives p ≡ commandHandles rows known s
-      → sizedArea (eqb tag sessions) p s p ≡ judgeCommand rows known s
+  pub judged-sized : {tag p : ℕ} → gives tag ≡ readCommandTag s → gives p ≡ commandHandles book s
+      → sizedArea (eqb tag sessions) p s p ≡ judgeCommand book s
   unfolding judgeCommand
   judged-sized read handles =
-      let of = frame-tag-is s read in
-      areas-sized handles (of .0) (two-tags _ (of .1)) ∙ goes-on (readFrameTag s) _ read
+      let of = command-tag-is s read in
+      areas-sized handles (of .0) (two-tags _ (of .1)) ∙ goes-on (readCommandTag s) _ read
 
-  pub areas-fit : {a : Areas} → gives a ≡ commandAreas rows known s
+  pub areas-fit : {a : Areas} → gives a ≡ commandAreas book s
       → (10 ≤ length s) × (10 ≤ a .handles) × (a .handles ≤ a .from) × (a .from ≤ a .to) × (a .to ≤ length s)
   unfolding commandAreas
   areas-fit e =
-      let handles = then-gives (commandHandles rows known s) _ (sym e) in
+      let handles = then-gives (commandHandles book s) _ (sym e) in
       let tag = needs-gives (isIn (tagOf s) tags) _ _ (handles .2) in
       let at = command-header (sym (handles .1)) in
       let fits = sized-order (eqb (tagOf s) sessions) (handles .0) (handles .0) s (omega arith) (at .2) (tag .1) in
       (at .0, rw (fits .0) (at .1), rw (fits .0) (fits .1), fits .2, fits .3)
 
-  pub cast-fits : {a : Areas} → gives a ≡ castCommand rows known s
+  pub cast-fits : {a : Areas} → gives a ≡ castCommand book s
       → (10 ≤ length s) × (10 ≤ a .handles) × (a .handles ≤ a .from) × (a .from ≤ a .to) × (a .to ≤ length s)
   unfolding castCommand judgeCommand
   cast-fits e =
       let size = then-gives (frameWhole s) _ (sym e) in
-      let tag = then-gives (readFrameTag s) _ (size .2) in
+      let tag = then-gives (readCommandTag s) _ (size .2) in
       areas-fit (sym (tag .2))
 
 -- ---- responses
 
-pub response-header : (s : List ℕ) {n : ℕ} → gives n ≡ castResponse s → 10 ≤ length s
-unfolding castResponse
-response-header s e = whole-fits s (sym (then-gives (frameWhole s) _ (sym e) .1))
+module _ (book : Rulebook) (s : List ℕ) where
+  pub response-header : {n : ℕ} → gives n ≡ castResponse book s → 10 ≤ length s
+  unfolding castResponse
+  response-header e = whole-fits s (sym (then-gives (frameWhole s) _ (sym e) .1))
 
-module _ (s : List ℕ) where
-  pub error-tag : {n : ℕ} → n ≡ tagOf s → eqb n plain ≡ false → refuses (3 ∷ 0 ∷ n ∷ []) ≡ errorAreas s
-  unfolding errorAreas
-  error-tag is other = rw is (fails (eqb (tagOf s) plain) _ _ (rw (← is) other))
+  -- the tags that an error may stand under
+  abbrev forError : ℕ → Bool
+  forError tag = eqb tag plain || isRspCommand book tag
 
-  pub error-long : {n : ℕ} → n ≡ tagOf s → eqb n plain ≡ true → 10 < length s → refuses (2 ∷ 10 ∷ (length s - 10) ∷ []) ≡ errorAreas s
-  unfolding errorAreas
-  error-long is two long = fails (leb (length s) 10) _ _ (lt-leb (length s) 10 long) ∙ passes (eqb (tagOf s) plain) _ _ (rw (← is) two)
+  module _ {n : ℕ} (is : n ≡ tagOf s) where
+    pub error-tag : forError n ≡ false → refuses (3 ∷ 0 ∷ n ∷ []) ≡ errorAreas book s
+    unfolding errorAreas
+    error-tag other = rw is (fails (forError (tagOf s)) _ _ (rw (← is) other))
 
-  pub error-read : {n : ℕ} → n ≡ tagOf s → eqb n plain ≡ true → length s ≤ 10
-      → gives (record { handles = 10; from = 10; to = 10 }) ≡ errorAreas s
-  unfolding errorAreas
-  error-read is two bare = passes (leb (length s) 10) _ _ (le-leb (length s) 10 bare) ∙ passes (eqb (tagOf s) plain) _ _ (rw (← is) two)
+    pub error-long : forError n ≡ true → 10 < length s → refuses (2 ∷ 10 ∷ (length s - 10) ∷ []) ≡ errorAreas book s
+    unfolding errorAreas
+    error-long one long = fails (leb (length s) 10) _ _ (lt-leb (length s) 10 long) ∙ passes (forError (tagOf s)) _ _ (rw (← is) one)
 
-module _ (rows : List Row) (cc : ℕ) (s : List ℕ) where
-  module _ {code : ℕ} (read : gives code ≡ castResponse s) where
-    pub areas-no-row : {why : List ℕ} → refuses why ≡ rowFor rows cc → refuses why ≡ responseAreas rows cc s
+    pub error-read : forError n ≡ true → length s ≤ 10 → gives (record { handles = 10; from = 10; to = 10 }) ≡ errorAreas book s
+    unfolding errorAreas
+    error-read one bare = passes (leb (length s) 10) _ _ (le-leb (length s) 10 bare) ∙ passes (forError (tagOf s)) _ _ (rw (← is) one)
+
+  module _ (cc : ℕ) where
+    module _ {code : ℕ} (read : gives code ≡ castResponse book s) where
+      pub areas-no-row : {why : List ℕ} → refuses why ≡ rowFor (book .rows) cc → refuses why ≡ responseAreas book cc s
+      unfolding responseAreas
+      areas-no-row e = stops (rowFor (book .rows) cc) _ e ∙ goes-on (castResponse book s) _ read
+
+      module _ {row : Row} (e : gives row ≡ rowFor (book .rows) cc) where
+        pub areas-success : eqb code 0 ≡ true → successAreas (row .responses) s ≡ responseAreas book cc s
+        unfolding responseAreas
+        areas-success is =
+            ap (λ (t : Bool). cond t (successAreas (row .responses) s) (errorAreas book s)) (sym is)
+            ∙ goes-on (rowFor (book .rows) cc) _ e ∙ goes-on (castResponse book s) _ read
+
+        pub areas-error : eqb code 0 ≡ false → errorAreas book s ≡ responseAreas book cc s
+        unfolding responseAreas
+        areas-error is =
+            ap (λ (t : Bool). cond t (successAreas (row .responses) s) (errorAreas book s)) (sym is)
+            ∙ goes-on (rowFor (book .rows) cc) _ e ∙ goes-on (castResponse book s) _ read
+
+    pub read-header : {a : Areas} → gives a ≡ responseAreas book cc s → 10 ≤ length s
     unfolding responseAreas
-    areas-no-row e = stops (rowFor rows cc) _ e ∙ goes-on (castResponse s) _ read
-
-    module _ {row : Row} (e : gives row ≡ rowFor rows cc) where
-      pub areas-success : eqb code 0 ≡ true → successAreas (row .responses) s ≡ responseAreas rows cc s
-      unfolding responseAreas
-      areas-success is =
-          ap (λ (t : Bool). cond t (successAreas (row .responses) s) (errorAreas s)) (sym is)
-          ∙ goes-on (rowFor rows cc) _ e ∙ goes-on (castResponse s) _ read
-
-      pub areas-error : eqb code 0 ≡ false → errorAreas s ≡ responseAreas rows cc s
-      unfolding responseAreas
-      areas-error is =
-          ap (λ (t : Bool). cond t (successAreas (row .responses) s) (errorAreas s)) (sym is)
-          ∙ goes-on (rowFor rows cc) _ e ∙ goes-on (castResponse s) _ read
-
-  pub read-header : {a : Areas} → gives a ≡ responseAreas rows cc s → 10 ≤ length s
-  unfolding responseAreas
-  read-header e = response-header s (sym (then-gives (castResponse s) _ (sym e) .1))
+    read-header e = response-header (sym (then-gives (castResponse book s) _ (sym e) .1))
 
 -- ---- the full check: areas and then a walk, of either kind
 

@@ -18,7 +18,8 @@ use Rattle.base.specs.Said.{gives}
 use Rattle.base.proofs.Bytes.{length-bytes}
 use Rattle.base.proofs.Checks.{needs-gives, then-gives, gives-injective}
 use Rattle.base.proofs.Places.{At, at-first, at-second, at-both, at-all, at-whole}
-use Rattle.frame.specs.Header.{tagOf, sizeOf, codeOf, framePrefix, frameWhole, plain, sessions, readFrameTag, isOfTwo}
+use Rattle.frame.specs.Header.{tagOf, sizeOf, codeOf, tagOfThose, framePrefix, frameWhole, plain, sessions, isOfTwo, isResponseTag, readCommandTag, readResponseTag}
+use Rattle.frame.specs.Rules.{Rulebook}
 use Rattle.table.specs.Tags.{tags}
 use Rattle.frame.specs.declared.areas.Areas.{Areas}
 use Rattle.frame.specs.Areas.{handleArea, sizedArea}
@@ -99,15 +100,32 @@ module _ (s : List ℕ) where
   unfolding frameWhole framePrefix
   whole-complete h e = rw e (simp (le-leb 10 (length s) h, le-leb (length s) (length s) (omega arith)))
 
-  pub tag-sound : {tag : ℕ} → readFrameTag s ≡ gives tag → isOfTwo (tagOf s) ≡ true
-  unfolding readFrameTag
-  tag-sound e =
-      let ten = needs-gives (leb 10 (length s)) _ _ e in
-      needs-gives (isOfTwo (tagOf s)) _ _ (ten .1) .0
+  -- a tag that was read is one of those that pass, and one of those is read
+  module _ (isOne : ℕ → Bool) where
+    those-sound : {tag : ℕ} → tagOfThose isOne s ≡ gives tag → isOne (tagOf s) ≡ true
+    those-sound e =
+        let ten = needs-gives (leb 10 (length s)) _ _ e in
+        needs-gives (isOne (tagOf s)) _ _ (ten .1) .0
 
-  pub tag-complete : 10 ≤ length s → isOfTwo (tagOf s) ≡ true → readFrameTag s ≡ gives (tagOf s)
-  unfolding readFrameTag
-  tag-complete h e = simp (le-leb 10 (length s) h, e)
+    those-complete : 10 ≤ length s → isOne (tagOf s) ≡ true → tagOfThose isOne s ≡ gives (tagOf s)
+    those-complete h e = simp (le-leb 10 (length s) h, e)
+
+  pub tag-sound : {tag : ℕ} → readCommandTag s ≡ gives tag → isOfTwo (tagOf s) ≡ true
+  unfolding readCommandTag
+  tag-sound = those-sound isOfTwo
+
+  pub tag-complete : 10 ≤ length s → isOfTwo (tagOf s) ≡ true → readCommandTag s ≡ gives (tagOf s)
+  unfolding readCommandTag
+  tag-complete = those-complete isOfTwo
+
+  module _ (book : Rulebook) where
+    pub response-tag-sound : {tag : ℕ} → readResponseTag book s ≡ gives tag → isResponseTag book (tagOf s) ≡ true
+    unfolding readResponseTag
+    response-tag-sound = those-sound (isResponseTag book)
+
+    pub response-tag-complete : 10 ≤ length s → isResponseTag book (tagOf s) ≡ true → readResponseTag book s ≡ gives (tagOf s)
+    unfolding readResponseTag
+    response-tag-complete = those-complete (isResponseTag book)
 
 -- what holds of the two tags holds of a frame's tag
 pub of-two : (P : ℕ → Type 0) → P plain → P sessions → (tag : ℕ) → isOfTwo tag ≡ true → P tag

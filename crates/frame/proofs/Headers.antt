@@ -1,7 +1,7 @@
 -- The cases of what is read and set in a header, and of the parts that a range tells, each from the tests that lead to it.
 -- Assumes nothing.
 use mathlib.Core.Path.{_≡_, sym, _∙_, ap}
-use mathlib.Core.Bool.{true, false}
+use mathlib.Core.Bool.{Bool, true, false}
 use mathlib.Core.List.{List, [], _∷_}
 use Prim.Native.Nat.{ℕ, _-_, _≤_, _<_}
 use native.Mathlib.Omega.{arith}
@@ -11,15 +11,14 @@ use lib.ListN.{length}
 use Rattle.base.specs.Bytes.{number}
 use Rattle.base.specs.Field.{writeField}
 use Rattle.base.specs.Members.{isIn}
-use Rattle.base.specs.Said.{Said, gives, refuses, given, done, after}
+use Rattle.base.specs.Said.{Said, gives, refuses, done, after}
 use Rattle.base.proofs.Checks.{passes, fails, goes-on, stops, needs-gives, then-gives, gives-injective}
 use Rattle.base.proofs.Lists.{span, take-drop-span}
-use Rattle.rc.specs.Code.{readCode, readFmt0}
-use Rattle.rc.specs.Known.{isKnown, knownCodes}
 use Rattle.table.specs.Table.{rowFor}
 use Rattle.table.specs.Tags.{tags}
 use Rattle.table.specs.declared.row.Row.{Row}
-use Rattle.frame.specs.Header.{tagOf, sizeOf, codeOf, header, readTag, readSize, readCc, readRc, setTag, setCc, setRc, framePrefix, frameWhole, isOfTwo, readFrameTag}
+use Rattle.frame.specs.Header.{tagOf, sizeOf, codeOf, reads, header, tagOfThose, readSize, readCc, readRc, setTag, setCc, setRc, framePrefix, frameWhole, isOfTwo, readCommandTag}
+use Rattle.frame.specs.Rules.{Rulebook}
 
 module _ (s : List ℕ) where
   pub short-header : {A : Type 0} (rest : Said A) → length s < 10 → refuses (1 ∷ 0 ∷ 10 ∷ length s ∷ []) ≡ header s rest
@@ -43,47 +42,34 @@ module _ (s : List ℕ) where
 
   -- what a header's reads say of n, the field as it was read
   module _ (n : ℕ) where
-    pub tag-read : n ≡ tagOf s → 10 ≤ length s → isIn n tags ≡ true → gives n ≡ readTag s
-    unfolding readTag
-    tag-read e h known = rw (← e) (passes (isIn n tags) _ (gives n) known ∙ has-header _ h)
+    module _ (isOne : ℕ → Bool) where
+      pub tag-read : n ≡ tagOf s → 10 ≤ length s → isOne n ≡ true → gives n ≡ tagOfThose isOne s
+      tag-read e h one = rw (← e) (passes (isOne n) _ (gives n) one ∙ has-header _ h)
 
-    pub tag-refused : n ≡ tagOf s → 10 ≤ length s → isIn n tags ≡ false → refuses (3 ∷ 0 ∷ n ∷ []) ≡ readTag s
-    unfolding readTag
-    tag-refused e h unknown = rw (← e) (fails (isIn n tags) _ (gives n) unknown ∙ has-header _ h)
-
-    pub frame-tag-read : n ≡ tagOf s → 10 ≤ length s → isOfTwo n ≡ true → gives n ≡ readFrameTag s
-    unfolding readFrameTag
-    frame-tag-read e h two = rw (← e) (passes (isOfTwo n) _ (gives n) two ∙ has-header _ h)
-
-    pub frame-tag-refused : n ≡ tagOf s → 10 ≤ length s → isOfTwo n ≡ false → refuses (3 ∷ 0 ∷ n ∷ []) ≡ readFrameTag s
-    unfolding readFrameTag
-    frame-tag-refused e h other = rw (← e) (fails (isOfTwo n) _ (gives n) other ∙ has-header _ h)
+      pub tag-refused : n ≡ tagOf s → 10 ≤ length s → isOne n ≡ false → refuses (3 ∷ 0 ∷ n ∷ []) ≡ tagOfThose isOne s
+      tag-refused e h other = rw (← e) (fails (isOne n) _ (gives n) other ∙ has-header _ h)
 
     pub size-read : n ≡ sizeOf s → 10 ≤ length s → gives n ≡ readSize s
     unfolding readSize
     size-read e h = rw (← e) (has-header _ h)
 
-    module _ (known : List ℕ) where
-      pub cc-read : n ≡ codeOf s → 10 ≤ length s → isIn n known ≡ true → gives n ≡ readCc known s
+    module _ (book : Rulebook) where
+      pub cc-read : n ≡ codeOf s → 10 ≤ length s → isIn n (book .known) ≡ true → gives n ≡ readCc book s
       unfolding readCc
-      cc-read e h member = rw (← e) (passes (isIn n known) _ (gives n) member ∙ has-header _ h)
+      cc-read e h member = rw (← e) (passes (isIn n (book .known)) _ (gives n) member ∙ has-header _ h)
 
-      pub cc-refused : n ≡ codeOf s → 10 ≤ length s → isIn n known ≡ false → refuses (4 ∷ 6 ∷ n ∷ []) ≡ readCc known s
+      pub cc-refused : n ≡ codeOf s → 10 ≤ length s → isIn n (book .known) ≡ false → refuses (4 ∷ 6 ∷ n ∷ []) ≡ readCc book s
       unfolding readCc
-      cc-refused e h other = rw (← e) (fails (isIn n known) _ (gives n) other ∙ has-header _ h)
+      cc-refused e h other = rw (← e) (fails (isIn n (book .known)) _ (gives n) other ∙ has-header _ h)
 
-    pub rc-read : n ≡ codeOf s → 10 ≤ length s → given (readCode n) ≡ true → gives n ≡ readRc s
-    unfolding readRc
-    rc-read e h reads = rw (← e) (passes (given (readCode n)) _ (gives n) reads ∙ has-header _ h)
+      module _ (tag : ℕ) where
+        pub rc-read : n ≡ codeOf s → tag ≡ tagOf s → 10 ≤ length s → reads book tag n ≡ true → gives n ≡ readRc book s
+        unfolding readRc
+        rc-read e f h read = rw (← e, ← f) (passes (reads book tag n) _ (gives n) read ∙ has-header _ h)
 
-    pub rc-refused : n ≡ codeOf s → 10 ≤ length s → given (readCode n) ≡ false → refuses (5 ∷ 6 ∷ n ∷ []) ≡ readRc s
-    unfolding readRc
-    rc-refused e h other = rw (← e) (fails (given (readCode n)) _ (gives n) other ∙ has-header _ h)
-
-    -- success reads
-    pub success-read : n ≡ codeOf s → 10 ≤ length s → n ≡ 0 → gives n ≡ readRc s
-    unfolding readCode readFmt0 isKnown knownCodes
-    success-read e h success = rc-read e h (ap (λ (code : ℕ). given (readCode code)) success)
+        pub rc-refused : n ≡ codeOf s → tag ≡ tagOf s → 10 ≤ length s → reads book tag n ≡ false → refuses (5 ∷ 6 ∷ n ∷ []) ≡ readRc book s
+        unfolding readRc
+        rc-refused e f h other = rw (← e, ← f) (fails (reads book tag n) _ (gives n) other ∙ has-header _ h)
 
     -- the envelope
     pub size-small : n ≡ sizeOf s → 10 ≤ length s → n < 10 → refuses (1 ∷ 2 ∷ 10 ∷ n ∷ []) ≡ framePrefix s
@@ -101,9 +87,9 @@ module _ (s : List ℕ) where
         rw (← e) (passes (leb n (length s)) _ _ (le-leb n (length s) fits) ∙ passes (leb 10 n) _ _ (le-leb 10 n ten) ∙ has-header _ h)
 
   -- a frame's tag that was read is the tag, and one of the two
-  pub frame-tag-is : {n : ℕ} → gives n ≡ readFrameTag s → (n ≡ tagOf s) × (isOfTwo n ≡ true)
-  unfolding readFrameTag
-  frame-tag-is {n} e =
+  pub command-tag-is : {n : ℕ} → gives n ≡ readCommandTag s → (n ≡ tagOf s) × (isOfTwo n ≡ true)
+  unfolding readCommandTag
+  command-tag-is {n} e =
       let there = needs-gives (leb 10 (length s)) _ _ (sym e) in
       let two = needs-gives (isOfTwo (tagOf s)) _ _ (there .1) in
       let is : tagOf s ≡ n = gives-injective (two .1) in
@@ -155,19 +141,20 @@ module _ (s : List ℕ) where
     unfolding setTag
     tag-not-set other = fails (isIn n tags) _ (writeField 2 0 n s) other ∙ has-header _ h
 
-    module _ (rows : List Row) where
-      pub cc-set : {row : Row} → gives row ≡ rowFor rows n → writeField 4 6 n s ≡ setCc rows n s
+    module _ (book : Rulebook) where
+      pub cc-set : {row : Row} → gives row ≡ rowFor (book .rows) n → writeField 4 6 n s ≡ setCc book n s
       unfolding setCc
-      cc-set found = goes-on (rowFor rows n) _ found ∙ has-header _ h
+      cc-set found = goes-on (rowFor (book .rows) n) _ found ∙ has-header _ h
 
-      pub cc-not-set : {why : List ℕ} → refuses why ≡ rowFor rows n → refuses why ≡ setCc rows n s
+      pub cc-not-set : {why : List ℕ} → refuses why ≡ rowFor (book .rows) n → refuses why ≡ setCc book n s
       unfolding setCc
-      cc-not-set lacks = stops (rowFor rows n) _ lacks ∙ has-header _ h
+      cc-not-set lacks = stops (rowFor (book .rows) n) _ lacks ∙ has-header _ h
 
-    pub rc-set : given (readCode n) ≡ true → writeField 4 6 n s ≡ setRc n s
-    unfolding setRc
-    rc-set reads = passes (given (readCode n)) _ (writeField 4 6 n s) reads ∙ has-header _ h
+      module _ (tag : ℕ) where
+        pub rc-set : tag ≡ tagOf s → reads book tag n ≡ true → writeField 4 6 n s ≡ setRc book n s
+        unfolding setRc
+        rc-set f read = rw (← f) (passes (reads book tag n) _ (writeField 4 6 n s) read ∙ has-header _ h)
 
-    pub rc-not-set : given (readCode n) ≡ false → refuses (5 ∷ 0 ∷ n ∷ []) ≡ setRc n s
-    unfolding setRc
-    rc-not-set other = fails (given (readCode n)) _ (writeField 4 6 n s) other ∙ has-header _ h
+        pub rc-not-set : tag ≡ tagOf s → reads book tag n ≡ false → refuses (5 ∷ 0 ∷ n ∷ []) ≡ setRc book n s
+        unfolding setRc
+        rc-not-set f other = rw (← f) (fails (reads book tag n) _ (writeField 4 6 n s) other ∙ has-header _ h)

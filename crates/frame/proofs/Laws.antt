@@ -1,5 +1,5 @@
--- Demand 3 at the port's own table, of what is given back by value and of what callers are answered. The laws of what is read hold
--- over any rows, and for commands over any list of known codes that has the rows' codes (CommandLaws, ResponseLaws).
+-- Demand 3 by the rules that a caller names, of what is given back by value and of what callers are answered. The laws of what is read
+-- hold by any rules, and for commands by any whose known codes have the rows' codes (CommandLaws, ResponseLaws).
 -- Assumes nothing.
 use mathlib.Core.Path.{_≡_, refl, sym, _∙_, ap}
 use mathlib.Core.Bool.{true}
@@ -16,6 +16,7 @@ use Rattle.base.specs.Parts.{heldAt}
 use Rattle.base.specs.Members.{isIn}
 use Rattle.base.specs.Said.{gives}
 use Rattle.table.specs.Dispatch.{dispatch, commandCodes}
+use Rattle.frame.specs.declared.rules.Rules.{Rules}
 use Rattle.table.specs.Table.{rowFor}
 use Rattle.table.specs.declared.row.Row.{Row}
 use Rattle.table.proofs.Table.{row-known}
@@ -28,6 +29,7 @@ use Rattle.frame.specs.Command.{readCommand, handlesRange, authRange, pa
 use Rattle.frame.specs.Layout.{Frame, CommandParts, ResponseParts, layoutEntries, layoutCommand, layoutResponse}
 use Rattle.frame.specs.Parts.{ranged, commandParts, responseParts}
 use Rattle.frame.specs.Response.{readResponse}
+use Rattle.frame.specs.Rules.{bookOf}
 use Rattle.frame.proofs.CommandLaws as over
 use Rattle.frame.proofs.ResponseLaws as over-one
 use Rattle.frame.proofs.Divides.{Divides, Tells, tells, done-exactly, done-valued}
@@ -47,28 +49,29 @@ has-code code r found = row-known code found
 
 -- ---- what is read: it divides as the layout says, and the authorization area holds the entries
 
-pub command-divides : Divides (λ s. commandByValue s (readCommand dispatch commandCodes s)) commandParts layoutCommand (CommandParts dispatch)
-command-divides = over.command-divides dispatch commandCodes has-code two-tags
+module _ (rules : Rules) where
+  pub command-divides : Divides (λ s. commandByValue s (readCommand (bookOf rules) s)) commandParts layoutCommand (CommandParts (bookOf rules))
+  command-divides = over.command-divides (bookOf rules) has-code two-tags
 
-pub command-auth : (s : List ℕ) → AreBytes s → (c : Command) → commandByValue s (readCommand dispatch commandCodes s) ≡ gives c
-    → heldAt (c .auth) s ≡ layoutEntries 4 (commandParts s c .entries)
-command-auth = over.command-auth dispatch commandCodes
+  pub command-auth : (s : List ℕ) → AreBytes s → (c : Command) → commandByValue s (readCommand (bookOf rules) s) ≡ gives c
+      → heldAt (c .auth) s ≡ layoutEntries 4 (commandParts s c .entries)
+  command-auth = over.command-auth (bookOf rules)
 
--- and the three reads of one area give the areas of a passing command
-pub command-ranges : (s : List ℕ) (c : Command) → commandByValue s (readCommand dispatch commandCodes s) ≡ gives c
-    → (handlesRange dispatch commandCodes s ≡ gives (ranged (c .handles)))
-    × (authRange dispatch commandCodes s ≡ gives (ranged (c .auth)))
-    × (parametersRange dispatch commandCodes s ≡ gives (ranged (c .parameters)))
-command-ranges = over.command-ranges dispatch commandCodes
+  -- and the three reads of one area give the areas of a passing command
+  pub command-ranges : (s : List ℕ) (c : Command) → commandByValue s (readCommand (bookOf rules) s) ≡ gives c
+      → (handlesRange (bookOf rules) s ≡ gives (ranged (c .handles)))
+      × (authRange (bookOf rules) s ≡ gives (ranged (c .auth)))
+      × (parametersRange (bookOf rules) s ≡ gives (ranged (c .parameters)))
+  command-ranges = over.command-ranges (bookOf rules)
 
--- of responses to the command of a code
-module _ (cc : ℕ) where
-  pub response-divides : Divides (λ s. responseByValue s (readResponse dispatch cc s)) responseParts layoutResponse (ResponseParts dispatch cc)
-  response-divides = over-one.response-divides dispatch cc
+  -- of responses to the command of a code
+  module _ (cc : ℕ) where
+    pub response-divides : Divides (λ s. responseByValue s (readResponse (bookOf rules) cc s)) responseParts layoutResponse (ResponseParts (bookOf rules) cc)
+    response-divides = over-one.response-divides (bookOf rules) cc
 
-  pub response-auth : (s : List ℕ) → AreBytes s → (r : Response) → responseByValue s (readResponse dispatch cc s) ≡ gives r
-      → heldAt (r .auth) s ≡ layoutEntries 0 (responseParts s r .entries)
-  response-auth = over-one.response-auth dispatch cc
+    pub response-auth : (s : List ℕ) → AreBytes s → (r : Response) → responseByValue s (readResponse (bookOf rules) cc s) ≡ gives r
+        → heldAt (r .auth) s ≡ layoutEntries 0 (responseParts s r .entries)
+    response-auth = over-one.response-auth (bookOf rules) cc
 
 -- ---- what callers are answered: whatever arguments, result and later state of what was lent meet a function's contract, the claim
 -- holds of them
@@ -81,35 +84,35 @@ Promised n ps r Post Claim =
 
 -- `validate` is done exactly when the bytes are the layout of well-formed parts
 pub command-validate : Promised 1 command-validate-kinds.ps command-validate-kinds.r command-validate-reads.Post
-    (λ κs a x later. AreBytes (now (a .0)) → (x ≡ outcome.Done) ↔ ((f : Frame) × CommandParts dispatch f × (layoutCommand f ≡ now (a .0))))
+    (λ κs a x later. AreBytes (now (a .1 .0)) → (x ≡ outcome.Done) ↔ ((f : Frame) × CommandParts (bookOf (a .0)) f × (layoutCommand f ≡ now (a .1 .0))))
 command-validate κs a x v met p =
-    let s : List ℕ = now (a .0) in
-    done-exactly command-divides s p x (met ∙ done-valued (frameOf commandOf s) (readCommand dispatch commandCodes s))
+    let s : List ℕ = now (a .1 .0) in
+    done-exactly (command-divides (a .0)) s p x (met ∙ done-valued (frameOf commandOf s) (readCommand (bookOf (a .0)) s))
 
 pub response-validate : Promised 1 response-validate-kinds.ps response-validate-kinds.r response-validate-reads.Post
-    (λ κs a x later. AreBytes (now (a .1 .0))
-    → (x ≡ outcome.Done) ↔ ((f : Frame) × ResponseParts dispatch (a .0 .0) f × (layoutResponse f ≡ now (a .1 .0))))
+    (λ κs a x later. AreBytes (now (a .1 .1 .0))
+    → (x ≡ outcome.Done) ↔ ((f : Frame) × ResponseParts (bookOf (a .0)) (a .1 .0 .0) f × (layoutResponse f ≡ now (a .1 .1 .0))))
 response-validate κs a x v met p =
-    let s : List ℕ = now (a .1 .0) in
-    done-exactly (response-divides (a .0 .0)) s p x (met ∙ done-valued (frameOf responseOf s) (readResponse dispatch (a .0 .0) s))
+    let s : List ℕ = now (a .1 .1 .0) in
+    done-exactly (response-divides (a .0) (a .1 .0 .0)) s p x (met ∙ done-valued (frameOf responseOf s) (readResponse (bookOf (a .0)) (a .1 .0 .0) s))
 
 -- `parts` gives what tells these parts, and then the authorization area is the layout of the entries
 pub command-parts : Promised 1 command-parts-kinds.ps command-parts-kinds.r command-parts-reads.Post
-    (λ κs a x later. AreBytes (now (a .0))
-    → Tells command.Is commandParts layoutCommand (CommandParts dispatch) (now (a .0)) x
-    × ((c : Command) → x ≡ command.Is c → heldAt (c .auth) (now (a .0)) ≡ layoutEntries 4 (commandParts (now (a .0)) c .entries)))
+    (λ κs a x later. AreBytes (now (a .1 .0))
+    → Tells command.Is commandParts layoutCommand (CommandParts (bookOf (a .0))) (now (a .1 .0)) x
+    × ((c : Command) → x ≡ command.Is c → heldAt (c .auth) (now (a .1 .0)) ≡ layoutEntries 4 (commandParts (now (a .1 .0)) c .entries)))
 command-parts κs a x v met p =
-    let s : List ℕ = now (a .0) in (
-      tells command-divides s p saidCommand command.Is (λ c. refl) saidCommand-injective x met,
-      (λ c is. command-auth s p c (sym met ∙ ap saidCommand is)),
+    let s : List ℕ = now (a .1 .0) in (
+      tells (command-divides (a .0)) s p saidCommand command.Is (λ c. refl) saidCommand-injective x met,
+      (λ c is. command-auth (a .0) s p c (sym met ∙ ap saidCommand is)),
     )
 
 pub response-parts : Promised 1 response-parts-kinds.ps response-parts-kinds.r response-parts-reads.Post
-    (λ κs a x later. AreBytes (now (a .1 .0))
-    → Tells response.Is responseParts layoutResponse (ResponseParts dispatch (a .0 .0)) (now (a .1 .0)) x
-    × ((r : Response) → x ≡ response.Is r → heldAt (r .auth) (now (a .1 .0)) ≡ layoutEntries 0 (responseParts (now (a .1 .0)) r .entries)))
+    (λ κs a x later. AreBytes (now (a .1 .1 .0))
+    → Tells response.Is responseParts layoutResponse (ResponseParts (bookOf (a .0)) (a .1 .0 .0)) (now (a .1 .1 .0)) x
+    × ((r : Response) → x ≡ response.Is r → heldAt (r .auth) (now (a .1 .1 .0)) ≡ layoutEntries 0 (responseParts (now (a .1 .1 .0)) r .entries)))
 response-parts κs a x v met p =
-    let s : List ℕ = now (a .1 .0) in (
-      tells (response-divides (a .0 .0)) s p saidResponse response.Is (λ r. refl) saidResponse-injective x met,
-      (λ r is. response-auth (a .0 .0) s p r (sym met ∙ ap saidResponse is)),
+    let s : List ℕ = now (a .1 .1 .0) in (
+      tells (response-divides (a .0) (a .1 .0 .0)) s p saidResponse response.Is (λ r. refl) saidResponse-injective x met,
+      (λ r is. response-auth (a .0) (a .1 .0 .0) s p r (sym met ∙ ap saidResponse is)),
     )

@@ -1,3 +1,4 @@
+pub mod BadTags
 pub mod CommandLaws
 pub mod Divides
 pub mod Divisions
@@ -5,7 +6,9 @@ pub mod EntryLaws
 pub mod FrameLaws
 pub mod Headers
 pub mod Laws
+pub mod Readings
 pub mod ResponseLaws
+pub mod RulesByValue
 pub mod Single
 pub mod Standing
 pub mod WalkLaws

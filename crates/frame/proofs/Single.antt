@@ -144,7 +144,7 @@ command-cc : Single 1 command-cc-kinds.ps command-cc-kinds.r command-cc-reads.Po
 command-cc κs a x y v w p q = (saidCommandCode-injective x y (p ∙ sym q), refl)
 
 command-set-cc : Single 1 command-set-cc-kinds.ps command-set-cc-kinds.r command-set-cc-reads.Post
-command-set-cc κs a x y v w p q = (saidOutcome-injective x y (p .0 ∙ sym (q .0)), λ i. ((p .1 ∙ sym (q .1)) i, (tt, tt)))
+command-set-cc κs a x y v w p q = (saidOutcome-injective x y (p .0 ∙ sym (q .0)), λ i. (tt, ((p .1 ∙ sym (q .1)) i, (tt, tt))))
 
 command-handles-range : Single 1 command-handles-range-kinds.ps command-handles-range-kinds.r command-handles-range-reads.Post
 command-handles-range κs a x y v w p q = (saidRange-injective x y (p ∙ sym q), refl)
@@ -209,7 +209,7 @@ response-rc : Single 1 response-rc-kinds.ps response-rc-kinds.r response-rc-read
 response-rc κs a x y v w p q = (saidResponseCode-injective x y (p ∙ sym q), refl)
 
 response-set-rc : Single 1 response-set-rc-kinds.ps response-set-rc-kinds.r response-set-rc-reads.Post
-response-set-rc κs a x y v w p q = (saidOutcome-injective x y (p .0 ∙ sym (q .0)), λ i. ((p .1 ∙ sym (q .1)) i, (tt, tt)))
+response-set-rc κs a x y v w p q = (saidOutcome-injective x y (p .0 ∙ sym (q .0)), λ i. (tt, ((p .1 ∙ sym (q .1)) i, (tt, tt))))
 
 response-body-range : Single 1 response-body-range-kinds.ps response-body-range-kinds.r response-body-range-reads.Post
 response-body-range κs a x y v w p q = (saidRange-injective x y (p ∙ sym q), refl)

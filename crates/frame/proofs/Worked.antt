@@ -1,23 +1,32 @@
--- Document 01's worked frames, and what the definitions answer to a call at the port's table, in the numbers that callers see. The
+-- Document 01's worked frames, and what the definitions answer to a call in the Rust reading, in the numbers that callers see. The
 -- starred rows are proved together where the writers are known (marshal, proofs/Worked.antt).
 -- Assumes nothing.
 use mathlib.Core.Path.{_≡_, refl}
 use mathlib.Core.List.{List, [], _∷_, _++_}
 use Prim.Native.Nat.{ℕ}
 use Rattle.base.specs.Bytes.{number}
-use Rattle.base.specs.Said.{Said, gives, refuses, then}
+use Rattle.base.specs.Said.{Said, gives, refuses, then, done}
 use Rattle.rc.specs.Code.{readCode, baseOf, kindNumber, kindOf, indexOf}
-use Rattle.table.specs.Dispatch.{dispatch, commandCodes}
+use Rattle.table.specs.Dispatch.{dispatch}
 use Rattle.table.specs.Tags.{tags}
 use Rattle.base.specs.declared.part.Span.{Span}
 use Rattle.frame.specs.Answer.{commandByValue, responseByValue, whole}
 use Rattle.frame.specs.Areas.{handleArea, sizedArea}
 use Rattle.frame.specs.Command.{commandHandles, commandAreas, judgeCommand, castCommand, readCommand}
-use Rattle.frame.specs.Header.{tagOf, sizeOf, codeOf, readCc, framePrefix, frameWhole, readFrameTag}
-use Rattle.frame.specs.Response.{readResponse}
+use Rattle.frame.specs.Header.{tagOf, sizeOf, codeOf, readCc, readRc, framePrefix, frameWhole, readCommandTag, readResponseTag}
+use Rattle.frame.specs.Response.{judgeResponse, castResponse, errorAreas, responseAreas, readResponse}
+use Rattle.frame.specs.Rules.{Rulebook, bookOf}
+use Rattle.frame.specs.declared.rules.Reading.the-variants as reading
 use Rattle.frame.specs.Walk.{readTpm2b, readSigned, readEntry, walk}
 
 -- ---- the calls
+
+-- the two readings
+abbrev pub rust : Rulebook
+rust = bookOf (record { reading = reading.Rust })
+
+abbrev pub standard : Rulebook
+standard = bookOf (record { reading = reading.Standard })
 
 -- a call with what it is given; a response with the code of the command that it answers
 pub data Asked : Type 0 where
@@ -32,13 +41,13 @@ places handles entries parameters =
 
 -- what the call answers: a range by its two ends, a code by its base, the number of its kind and its index, a check by nothing
 abbrev pub answer : Asked → Said (List ℕ)
-answer (cast-command s) = then (whole s (castCommand dispatch commandCodes s)) λ p. gives (p .from ∷ p .to ∷ [])
-answer (validate-command s) = then (readCommand dispatch commandCodes s) λ d. gives []
+answer (cast-command s) = then (whole s (castCommand rust s)) λ p. gives (p .from ∷ p .to ∷ [])
+answer (validate-command s) = then (readCommand rust s) λ d. gives []
 answer (parts-of-command s) =
-    then (commandByValue s (readCommand dispatch commandCodes s)) λ c. gives (places (c .handles) (c .auth) (c .parameters))
-answer (validate-response cc s) = then (readResponse dispatch cc s) λ d. gives []
+    then (commandByValue s (readCommand rust s)) λ c. gives (places (c .handles) (c .auth) (c .parameters))
+answer (validate-response cc s) = then (readResponse rust cc s) λ d. gives []
 answer (parts-of-response cc s) =
-    then (responseByValue s (readResponse dispatch cc s)) λ r. gives (places (r .handles) (r .auth) (r .parameters))
+    then (responseByValue s (readResponse rust cc s)) λ r. gives (places (r .handles) (r .auth) (r .parameters))
 answer (read-code n) = then (readCode n) λ c. gives (baseOf c ∷ kindNumber (kindOf c) ∷ indexOf c ∷ [])
 
 -- ---- the frames
@@ -70,5 +79,37 @@ C size =
 -- ---- a fourth entry is refused before it is read: 01's row of B with three entries and a byte, which has no star
 
 pub fourth-entry : answer (validate-command (B 0x2e 28 (entry ++ (entry ++ (entry ++ (0 ∷ [])))))) ≡ refuses (6 ∷ 45 ∷ 3 ∷ 4 ∷ [])
-unfolding number dispatch tags tagOf sizeOf codeOf readCc framePrefix frameWhole readFrameTag handleArea sizedArea commandHandles commandAreas judgeCommand castCommand readCommand readTpm2b readSigned readEntry walk
+unfolding number dispatch tags tagOf sizeOf codeOf readCc framePrefix frameWhole readCommandTag handleArea sizedArea commandHandles commandAreas judgeCommand castCommand readCommand readTpm2b readSigned readEntry walk
 fourth-entry = refl
+
+-- ---- the answer to a bad tag (document 02, W5)
+
+-- bytes under that tag: so long, by their size field, with the last two bytes of their code, and what stands behind the header
+abbrev underRspCommand : ℕ → ℕ → ℕ → List ℕ → List ℕ
+underRspCommand size high low rest = 0 ∷ 0xc4 ∷ 0 ∷ 0 ∷ 0 ∷ size ∷ 0 ∷ 0 ∷ high ∷ low ∷ rest
+
+-- whether `cast` and `validate` pass a response to the command of a code, and if not, why
+abbrev judgedBy : Rulebook → ℕ → List ℕ → List (Said (Unit {0}))
+judgedBy book cc s = done (castResponse book s) ∷ done (readResponse book cc s) ∷ []
+
+-- in the Rust reading, in the standard one; with codes other than its own; longer; for a command that has no row
+pub bad-tag-rows : judgedBy rust 0x15e (underRspCommand 10 0 0x1e [])
+    ∷ judgedBy standard 0x15e (underRspCommand 10 0 0x1e [])
+    ∷ judgedBy standard 0x15e (underRspCommand 10 1 0x01 [])
+    ∷ judgedBy standard 0x15e (underRspCommand 10 0 0 [])
+    ∷ judgedBy standard 0x15e (underRspCommand 10 0 0x30 [])
+    ∷ judgedBy standard 0x15e (underRspCommand 11 0 0x1e (0 ∷ []))
+    ∷ judgedBy standard 0x197 (underRspCommand 10 0 0x1e [])
+    ∷ judgedBy standard 0x197 (underRspCommand 11 0 0x1e (0 ∷ []))
+    ∷ []
+    ≡ (refuses (3 ∷ 0 ∷ 196 ∷ []) ∷ refuses (3 ∷ 0 ∷ 196 ∷ []) ∷ [])
+    ∷ (gives tt ∷ gives tt ∷ [])
+    ∷ (refuses (5 ∷ 6 ∷ 0x101 ∷ []) ∷ refuses (5 ∷ 6 ∷ 0x101 ∷ []) ∷ [])
+    ∷ (refuses (5 ∷ 6 ∷ 0 ∷ []) ∷ refuses (5 ∷ 6 ∷ 0 ∷ []) ∷ [])
+    ∷ (refuses (5 ∷ 6 ∷ 48 ∷ []) ∷ refuses (5 ∷ 6 ∷ 48 ∷ []) ∷ [])
+    ∷ (gives tt ∷ refuses (2 ∷ 10 ∷ 1 ∷ []) ∷ [])
+    ∷ (gives tt ∷ refuses (4 ∷ 0 ∷ 0x197 ∷ []) ∷ [])
+    ∷ (gives tt ∷ refuses (4 ∷ 0 ∷ 0x197 ∷ []) ∷ [])
+    ∷ []
+unfolding number dispatch tagOf sizeOf codeOf framePrefix frameWhole readResponseTag readRc judgeResponse castResponse errorAreas responseAreas readResponse walk
+bad-tag-rows = refl

@@ -1,4 +1,4 @@
--- Reading a command (document 01, "Order of checks"), over any rows and any list of known codes.
+-- Reading a command (document 01, "Order of checks"), over any rules.
 -- Assumes nothing: these are definitions.
 use Prim.Native.Nat.{ℕ}
 use mathlib.Core.List.{List, [], _∷_}
@@ -9,11 +9,11 @@ use Rattle.base.specs.Members.{isIn}
 use Rattle.base.specs.Said.{Said, gives, needs, then}
 use Rattle.table.specs.Table.{rowFor}
 use Rattle.table.specs.Tags.{tags}
-use Rattle.table.specs.declared.row.Row.{Row}
 use Rattle.frame.specs.declared.areas.Areas.{Areas}
 use Rattle.frame.specs.declared.session.Session.{Session}
 use Rattle.frame.specs.Areas.{handleArea, sizedArea}
-use Rattle.frame.specs.Header.{tagOf, sessions, readCc, framePrefix, frameWhole, readFrameTag}
+use Rattle.frame.specs.Header.{tagOf, sessions, readCc, framePrefix, frameWhole, readCommandTag}
+use Rattle.frame.specs.Rules.{Rulebook}
 use Rattle.frame.specs.Walk.{walk}
 
 -- a frame taken apart: its areas and its entries
@@ -21,12 +21,12 @@ pub record Division : Type 0 where
   pub areas : Areas
   pub entries : List Session
 
-module _ (rows : List Row) (known : List ℕ) where
+module _ (book : Rulebook) where
   -- where the handles end, of bytes that no cast has seen
   unfoldable pub commandHandles : List ℕ → Said ℕ
   commandHandles s =
-      then (readCc known s) λ code.
-      then (rowFor rows code) λ row.
+      then (readCc book s) λ code.
+      then (rowFor (book .rows) code) λ row.
       handleArea (row .handles) s
 
   -- the areas, of bytes that no cast has seen: any known tag but the sessions tag counts as plain
@@ -38,7 +38,7 @@ module _ (rows : List Row) (known : List ℕ) where
 
   -- what is judged of a command behind its size
   unfoldable pub judgeCommand : List ℕ → Said Areas
-  judgeCommand s = then (readFrameTag s) λ tag. commandAreas s
+  judgeCommand s = then (readCommandTag s) λ tag. commandAreas s
 
   unfoldable pub castCommand : List ℕ → Said Areas
   castCommand s = then (frameWhole s) λ n. judgeCommand s

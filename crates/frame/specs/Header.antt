@@ -2,7 +2,7 @@
 -- checks"; Part 1, command and response formats).
 -- Assumes nothing: these are definitions.
 use Prim.Native.Nat.{ℕ, _-_}
-use mathlib.Core.Bool.{Bool, _||_}
+use mathlib.Core.Bool.{Bool, _&&_, _||_, cond}
 use mathlib.Core.List.{List, [], _∷_}
 use lib.Dec.{eqb, leb}
 use lib.ListN.{length, take, drop}
@@ -13,7 +13,7 @@ use Rattle.base.specs.Said.{Said, gives, needs, then, given}
 use Rattle.rc.specs.Code.{readCode}
 use Rattle.table.specs.Table.{rowFor}
 use Rattle.table.specs.Tags.{tags}
-use Rattle.table.specs.declared.row.Row.{Row}
+use Rattle.frame.specs.Rules.{Rulebook}
 
 -- bytes 0 and 1 are the tag, 2 to 5 the size of the whole frame, 6 to 9 the code
 unfoldable pub tagOf : List ℕ → ℕ
@@ -32,34 +32,53 @@ plain = 0x8001
 abbrev pub sessions : ℕ
 sessions = 0x8002
 
+-- the tag and the code of the answer to a bad tag (Part 2, TPM_ST_RSP_COMMAND and TPM_RC_BAD_TAG)
+abbrev pub rspCommand : ℕ
+rspCommand = 0x00c4
+
+abbrev pub badTag : ℕ
+badTag = 0x1e
+
+-- by rules that have it, that tag stands over that answer and nothing else
+abbrev pub isRspCommand : Rulebook → ℕ → Bool
+isRspCommand book tag = book .answersBadTag && eqb tag rspCommand
+
+-- a response code that reads under a tag (document 02, W5): what the list of known codes has is not asked of that answer
+abbrev pub reads : Rulebook → ℕ → ℕ → Bool
+reads book tag code = cond (isRspCommand book tag) (eqb code badTag) (given (readCode code))
+
 -- the ten bytes of the header are there
 abbrev pub header : {A : Type 0} → List ℕ → Said A → Said A
 header s rest = needs (leb 10 (length s)) (1 ∷ 0 ∷ 10 ∷ length s ∷ []) rest
 
 -- ---- one field read; the size is not judged
 
+-- the tag, one of those that pass a test
+abbrev pub tagOfThose : (ℕ → Bool) → List ℕ → Said ℕ
+tagOfThose isOne s = header s (needs (isOne (tagOf s)) (3 ∷ 0 ∷ tagOf s ∷ []) (gives (tagOf s)))
+
 unfoldable pub readTag : List ℕ → Said ℕ
-readTag s = header s (needs (isIn (tagOf s) tags) (3 ∷ 0 ∷ tagOf s ∷ []) (gives (tagOf s)))
+readTag = tagOfThose λ tag. isIn tag tags
 
 unfoldable pub readSize : List ℕ → Said ℕ
 readSize s = header s (gives (sizeOf s))
 
-unfoldable pub readCc : List ℕ → List ℕ → Said ℕ
-readCc known s = header s (needs (isIn (codeOf s) known) (4 ∷ 6 ∷ codeOf s ∷ []) (gives (codeOf s)))
+unfoldable pub readCc : Rulebook → List ℕ → Said ℕ
+readCc book s = header s (needs (isIn (codeOf s) (book .known)) (4 ∷ 6 ∷ codeOf s ∷ []) (gives (codeOf s)))
 
-unfoldable pub readRc : List ℕ → Said ℕ
-readRc s = header s (needs (given (readCode (codeOf s))) (5 ∷ 6 ∷ codeOf s ∷ []) (gives (codeOf s)))
+unfoldable pub readRc : Rulebook → List ℕ → Said ℕ
+readRc book s = header s (needs (reads book (tagOf s) (codeOf s)) (5 ∷ 6 ∷ codeOf s ∷ []) (gives (codeOf s)))
 
 -- ---- one field set: the bytes later
 
 unfoldable pub setTag : ℕ → List ℕ → Said (List ℕ)
 setTag tag s = header s (needs (isIn tag tags) (3 ∷ 0 ∷ tag ∷ []) (writeField 2 0 tag s))
 
-unfoldable pub setCc : List Row → ℕ → List ℕ → Said (List ℕ)
-setCc rows code s = header s (then (rowFor rows code) λ r. writeField 4 6 code s)
+unfoldable pub setCc : Rulebook → ℕ → List ℕ → Said (List ℕ)
+setCc book code s = header s (then (rowFor (book .rows) code) λ r. writeField 4 6 code s)
 
-unfoldable pub setRc : ℕ → List ℕ → Said (List ℕ)
-setRc code s = header s (needs (given (readCode code)) (5 ∷ 0 ∷ code ∷ []) (writeField 4 6 code s))
+unfoldable pub setRc : Rulebook → ℕ → List ℕ → Said (List ℕ)
+setRc book code s = header s (needs (reads book (tagOf s) code) (5 ∷ 0 ∷ code ∷ []) (writeField 4 6 code s))
 
 -- ---- the envelope
 
@@ -75,9 +94,15 @@ framePrefix s =
 unfoldable pub frameWhole : List ℕ → Said ℕ
 frameWhole s = then (framePrefix s) λ n. needs (leb (length s) n) (2 ∷ n ∷ (length s - n) ∷ []) (gives n)
 
--- a frame's tag is one of the two
+-- a command's tag is one of the two; a response's also that of the answer to a bad tag, by rules that have it
 abbrev pub isOfTwo : ℕ → Bool
 isOfTwo tag = eqb tag plain || eqb tag sessions
 
-unfoldable pub readFrameTag : List ℕ → Said ℕ
-readFrameTag s = header s (needs (isOfTwo (tagOf s)) (3 ∷ 0 ∷ tagOf s ∷ []) (gives (tagOf s)))
+abbrev pub isResponseTag : Rulebook → ℕ → Bool
+isResponseTag book tag = isOfTwo tag || isRspCommand book tag
+
+unfoldable pub readCommandTag : List ℕ → Said ℕ
+readCommandTag = tagOfThose isOfTwo
+
+unfoldable pub readResponseTag : Rulebook → List ℕ → Said ℕ
+readResponseTag book = tagOfThose (isResponseTag book)

@@ -14,7 +14,8 @@ use Rattle.base.specs.Tpm2b.{tpm2b}
 use Rattle.rc.specs.Code.{readCode}
 use Rattle.table.specs.Table.{rowFor}
 use Rattle.table.specs.declared.row.Row.{Row}
-use Rattle.frame.specs.Header.{plain, sessions}
+use Rattle.frame.specs.Header.{plain, sessions, rspCommand, badTag}
+use Rattle.frame.specs.Rules.{Rulebook}
 
 -- an entry of an authorization area; in a response it has no handle
 pub record Entry : Type 0 where
@@ -85,18 +86,24 @@ pub record WellFormed (width handles : ℕ) (f : Frame) : Type 0 where
   pub parameter-bytes : AreBytes (f .parameters)
 
 -- a command whose code has a row
-pub record CommandParts (rows : List Row) (f : Frame) : Type 0 where
+pub record CommandParts (book : Rulebook) (f : Frame) : Type 0 where
   pub row : Row
-  pub has-row : rowFor rows (f .code) ≡ gives row
+  pub has-row : rowFor (book .rows) (f .code) ≡ gives row
   pub well-formed : WellFormed 4 (row .handles) f
   pub size-fits : length (layoutCommand f) < 4294967296
 
--- an error response: a code that reads and is not success, under the plain tag, and nothing else
-pub record ErrorParts (f : Frame) : Type 0 where
-  pub tag-plain : f .tag ≡ plain
+-- an error under the plain tag: a code that reads and is not success
+abbrev pub PlainError : Frame → Type 0
+PlainError f = (f .tag ≡ plain) × (given (readCode (f .code)) ≡ true) × (eqb (f .code) 0 ≡ false)
+
+-- the answer to a bad tag, by rules that have it: a tag and a code of its own
+abbrev pub BadTagAnswer : Rulebook → Frame → Type 0
+BadTagAnswer book f = (book .answersBadTag ≡ true) × (f .tag ≡ rspCommand) × (f .code ≡ badTag)
+
+-- an error response is one of these and has no other part
+pub record ErrorParts (book : Rulebook) (f : Frame) : Type 0 where
+  pub either-error : PlainError f ⊎ BadTagAnswer book f
   pub code-fits : f .code < 4294967296
-  pub code-reads : given (readCode (f .code)) ≡ true
-  pub no-success : eqb (f .code) 0 ≡ false
   pub no-handles : f .handles ≡ []
   pub no-entries : f .entries ≡ []
   pub no-parameters : f .parameters ≡ []
@@ -107,7 +114,7 @@ pub record SuccessParts (responses : ℕ) (f : Frame) : Type 0 where
   pub size-fits : length (layoutResponse f) < 4294967296
 
 -- a response to a command whose code has a row
-pub record ResponseParts (rows : List Row) (cc : ℕ) (f : Frame) : Type 0 where
+pub record ResponseParts (book : Rulebook) (cc : ℕ) (f : Frame) : Type 0 where
   pub row : Row
-  pub has-row : rowFor rows cc ≡ gives row
-  pub either-kind : SuccessParts (row .responses) f ⊎ ErrorParts f
+  pub has-row : rowFor (book .rows) cc ≡ gives row
+  pub either-kind : SuccessParts (row .responses) f ⊎ ErrorParts book f

@@ -5,4 +5,5 @@ pub mod Header
 pub mod Layout
 pub mod Parts
 pub mod Response
+pub mod Rules
 pub mod Walk

@@ -5,19 +5,20 @@ ghost use lib.ListN.{length};
 ghost use Rattle.base.specs.Answer.{saidCommandCode, saidCount, saidOutcome, saidRange};
 ghost use Rattle.base.specs.Parts.{IsPart, Ties, behind, upTo};
 ghost use Rattle.base.specs.Said.{after, done};
-ghost use Rattle.table.specs.Dispatch.{commandCodes, dispatch};
 ghost use Rattle.frame.specs.Answer.{areasOf, commandByValue, saidAreas, saidCommand, whole};
 ghost use Rattle.frame.specs.Command.{authRange, castCommand, castCommandPrefix, commandAreas, commandHandles, handlesRange, judgeCommand, parametersRange, readCommand};
 ghost use Rattle.frame.specs.Header.{readCc, setCc};
+ghost use Rattle.frame.specs.Rules.{bookOf};
 use crate::areas::Divided;
 use crate::areas::handle_area;
 use crate::areas::sized_area;
 use crate::header::HEADER_SIZE;
 use crate::header::SESSIONS;
+use crate::header::command_tag;
 use crate::header::frame_prefix;
-use crate::header::frame_tag;
 use crate::header::frame_whole;
 use crate::header::short;
+use crate::rules::Rules;
 use crate::session::Entries;
 use crate::walk::entries;
 use crate::walk::walk;
@@ -60,8 +61,8 @@ pub enum CommandRead {
 // ---- the code
 
 // The command code, one that TpmCc has.
-pub fn cc(s: &[u8]) -> CommandCode
-    ensures { λ r. ⌜ saidCommandCode r ≡ readCc commandCodes (now (s .entry)) ⌝ }
+pub fn cc(rules: Rules, s: &[u8]) -> CommandCode
+    ensures { λ r. ⌜ saidCommandCode r ≡ readCc (bookOf rules) (now (s .entry)) ⌝ }
 {
     if s.len() < HEADER_SIZE {
         return CommandCode::Refused(short(s.len()));
@@ -75,9 +76,9 @@ pub fn cc(s: &[u8]) -> CommandCode
 }
 
 // Changes the command code to one that has a row, and nothing else.
-pub fn set_cc(s: &mut [u8], cc: TpmCc) -> Outcome
-    ensures answer { λ r. ⌜ saidOutcome r ≡ done (setCc dispatch (cc .0) (now (s .entry))) ⌝ }
-    ensures bytes { λ r. ⌜ now (s .exit) ≡ after (now (s .entry)) (setCc dispatch (cc .0) (now (s .entry))) ⌝ }
+pub fn set_cc(rules: Rules, s: &mut [u8], cc: TpmCc) -> Outcome
+    ensures answer { λ r. ⌜ saidOutcome r ≡ done (setCc (bookOf rules) (cc .0) (now (s .entry))) ⌝ }
+    ensures bytes { λ r. ⌜ now (s .exit) ≡ after (now (s .entry)) (setCc (bookOf rules) (cc .0) (now (s .entry))) ⌝ }
 {
     if s.len() < HEADER_SIZE {
         return Outcome::Refused(short(s.len()));
@@ -91,8 +92,8 @@ pub fn set_cc(s: &mut [u8], cc: TpmCc) -> Outcome
 // ---- the areas
 
 // Where the handles end. A code with a row is known, so the row is looked for first.
-fn handles_end(s: &[u8]) -> Count
-    ensures { λ r. ⌜ saidCount r ≡ commandHandles dispatch commandCodes (now (s .entry)) ⌝ }
+fn handles_end(rules: Rules, s: &[u8]) -> Count
+    ensures { λ r. ⌜ saidCount r ≡ commandHandles (bookOf rules) (now (s .entry)) ⌝ }
 {
     if s.len() < HEADER_SIZE {
         return Count::Refused(short(s.len()));
@@ -110,10 +111,10 @@ fn handles_end(s: &[u8]) -> Count
     }
 }
 
-fn areas(s: &[u8]) -> Divided
-    ensures { λ r. ⌜ saidAreas r ≡ commandAreas dispatch commandCodes (now (s .entry)) ⌝ }
+fn areas(rules: Rules, s: &[u8]) -> Divided
+    ensures { λ r. ⌜ saidAreas r ≡ commandAreas (bookOf rules) (now (s .entry)) ⌝ }
 {
-    match handles_end(s) {
+    match handles_end(rules, s) {
         Count::Refused(e) => Divided::Refused(e),
         Count::Is(handles) => {
             let tag = TpmSt(be16(s[0], s[1]));
@@ -127,31 +128,31 @@ fn areas(s: &[u8]) -> Divided
 }
 
 // What is judged of a command behind its size. A tag of the two is one that TpmSt has.
-fn judge(s: &[u8]) -> Divided
-    ensures { λ r. ⌜ saidAreas r ≡ judgeCommand dispatch commandCodes (now (s .entry)) ⌝ }
+fn judge(rules: Rules, s: &[u8]) -> Divided
+    ensures { λ r. ⌜ saidAreas r ≡ judgeCommand (bookOf rules) (now (s .entry)) ⌝ }
 {
-    match frame_tag(s) {
+    match command_tag(s) {
         Tag::Refused(e) => Divided::Refused(e),
-        Tag::Is(tag) => match handles_end(s) {
+        Tag::Is(tag) => match handles_end(rules, s) {
             Count::Refused(e) => Divided::Refused(e),
             Count::Is(handles) => sized_area(tag.0 == SESSIONS, handles, s, handles),
         },
     }
 }
 
-fn cast_areas(s: &[u8]) -> Divided
-    ensures { λ r. ⌜ saidAreas r ≡ castCommand dispatch commandCodes (now (s .entry)) ⌝ }
+fn cast_areas(rules: Rules, s: &[u8]) -> Divided
+    ensures { λ r. ⌜ saidAreas r ≡ castCommand (bookOf rules) (now (s .entry)) ⌝ }
 {
     match frame_whole(s) {
         Count::Refused(e) => Divided::Refused(e),
-        Count::Is(_) => judge(s),
+        Count::Is(_) => judge(rules, s),
     }
 }
 
-pub fn handles_range(s: &[u8]) -> Range
-    ensures { λ r. ⌜ saidRange r ≡ handlesRange dispatch commandCodes (now (s .entry)) ⌝ }
+pub fn handles_range(rules: Rules, s: &[u8]) -> Range
+    ensures { λ r. ⌜ saidRange r ≡ handlesRange (bookOf rules) (now (s .entry)) ⌝ }
 {
-    match handles_end(s) {
+    match handles_end(rules, s) {
         Count::Refused(e) => Range::Refused(e),
         Count::Is(to) => Range::Is {
             from: HEADER_SIZE,
@@ -160,10 +161,10 @@ pub fn handles_range(s: &[u8]) -> Range
     }
 }
 
-pub fn auth_area_range(s: &[u8]) -> Range
-    ensures { λ r. ⌜ saidRange r ≡ authRange dispatch commandCodes (now (s .entry)) ⌝ }
+pub fn auth_area_range(rules: Rules, s: &[u8]) -> Range
+    ensures { λ r. ⌜ saidRange r ≡ authRange (bookOf rules) (now (s .entry)) ⌝ }
 {
-    match areas(s) {
+    match areas(rules, s) {
         Divided::Refused(e) => Range::Refused(e),
         Divided::Is(a) => Range::Is {
             from: a.from,
@@ -172,10 +173,10 @@ pub fn auth_area_range(s: &[u8]) -> Range
     }
 }
 
-pub fn parameters_range(s: &[u8]) -> Range
-    ensures { λ r. ⌜ saidRange r ≡ parametersRange dispatch commandCodes (now (s .entry)) ⌝ }
+pub fn parameters_range(rules: Rules, s: &[u8]) -> Range
+    ensures { λ r. ⌜ saidRange r ≡ parametersRange (bookOf rules) (now (s .entry)) ⌝ }
 {
-    match areas(s) {
+    match areas(rules, s) {
         Divided::Refused(e) => Range::Refused(e),
         Divided::Is(a) => Range::Is {
             from: a.to,
@@ -184,51 +185,51 @@ pub fn parameters_range(s: &[u8]) -> Range
     }
 }
 
-pub fn handles(s: &[u8]) -> &[u8]
-    ensures { λ r. ⌜ IsPart (handlesRange dispatch commandCodes (now (s .entry))) (s .entry) r ⌝ }
+pub fn handles(rules: Rules, s: &[u8]) -> &[u8]
+    ensures { λ r. ⌜ IsPart (handlesRange (bookOf rules) (now (s .entry))) (s .entry) r ⌝ }
 {
-    part(s, handles_range(s))
+    part(s, handles_range(rules, s))
 }
 
-pub fn auth_area(s: &[u8]) -> &[u8]
-    ensures { λ r. ⌜ IsPart (authRange dispatch commandCodes (now (s .entry))) (s .entry) r ⌝ }
+pub fn auth_area(rules: Rules, s: &[u8]) -> &[u8]
+    ensures { λ r. ⌜ IsPart (authRange (bookOf rules) (now (s .entry))) (s .entry) r ⌝ }
 {
-    part(s, auth_area_range(s))
+    part(s, auth_area_range(rules, s))
 }
 
-pub fn parameters(s: &[u8]) -> &[u8]
-    ensures { λ r. ⌜ IsPart (parametersRange dispatch commandCodes (now (s .entry))) (s .entry) r ⌝ }
+pub fn parameters(rules: Rules, s: &[u8]) -> &[u8]
+    ensures { λ r. ⌜ IsPart (parametersRange (bookOf rules) (now (s .entry))) (s .entry) r ⌝ }
 {
-    part(s, parameters_range(s))
+    part(s, parameters_range(rules, s))
 }
 
-pub fn handles_mut(s: &mut [u8]) -> &mut [u8]
-    ensures { λ r. Ties 𝓤 H A (search needs) (handlesRange dispatch commandCodes (now (s .entry))) (s .entry) r ∗ ⌜ IsPart (handlesRange dispatch commandCodes (now (s .entry))) (s .entry) r ⌝ }
+pub fn handles_mut(rules: Rules, s: &mut [u8]) -> &mut [u8]
+    ensures { λ r. Ties 𝓤 H A (search needs) (handlesRange (bookOf rules) (now (s .entry))) (s .entry) r ∗ ⌜ IsPart (handlesRange (bookOf rules) (now (s .entry))) (s .entry) r ⌝ }
 {
-    let range = handles_range(s);
+    let range = handles_range(rules, s);
     part_mut(s, range)
 }
 
-pub fn auth_area_mut(s: &mut [u8]) -> &mut [u8]
-    ensures { λ r. Ties 𝓤 H A (search needs) (authRange dispatch commandCodes (now (s .entry))) (s .entry) r ∗ ⌜ IsPart (authRange dispatch commandCodes (now (s .entry))) (s .entry) r ⌝ }
+pub fn auth_area_mut(rules: Rules, s: &mut [u8]) -> &mut [u8]
+    ensures { λ r. Ties 𝓤 H A (search needs) (authRange (bookOf rules) (now (s .entry))) (s .entry) r ∗ ⌜ IsPart (authRange (bookOf rules) (now (s .entry))) (s .entry) r ⌝ }
 {
-    let range = auth_area_range(s);
+    let range = auth_area_range(rules, s);
     part_mut(s, range)
 }
 
-pub fn parameters_mut(s: &mut [u8]) -> &mut [u8]
-    ensures { λ r. Ties 𝓤 H A (search needs) (parametersRange dispatch commandCodes (now (s .entry))) (s .entry) r ∗ ⌜ IsPart (parametersRange dispatch commandCodes (now (s .entry))) (s .entry) r ⌝ }
+pub fn parameters_mut(rules: Rules, s: &mut [u8]) -> &mut [u8]
+    ensures { λ r. Ties 𝓤 H A (search needs) (parametersRange (bookOf rules) (now (s .entry))) (s .entry) r ∗ ⌜ IsPart (parametersRange (bookOf rules) (now (s .entry))) (s .entry) r ⌝ }
 {
-    let range = parameters_range(s);
+    let range = parameters_range(rules, s);
     part_mut(s, range)
 }
 
 // ---- casts
 
-pub fn cast_range(s: &[u8]) -> Range
-    ensures { λ r. ⌜ saidRange r ≡ whole (now (s .entry)) (castCommand dispatch commandCodes (now (s .entry))) ⌝ }
+pub fn cast_range(rules: Rules, s: &[u8]) -> Range
+    ensures { λ r. ⌜ saidRange r ≡ whole (now (s .entry)) (castCommand (bookOf rules) (now (s .entry))) ⌝ }
 {
-    match cast_areas(s) {
+    match cast_areas(rules, s) {
         Divided::Refused(e) => Range::Refused(e),
         Divided::Is(_) => Range::Is {
             from: 0,
@@ -237,72 +238,72 @@ pub fn cast_range(s: &[u8]) -> Range
     }
 }
 
-pub fn cast(s: &[u8]) -> &[u8]
-    ensures { λ r. ⌜ IsPart (whole (now (s .entry)) (castCommand dispatch commandCodes (now (s .entry)))) (s .entry) r ⌝ }
+pub fn cast(rules: Rules, s: &[u8]) -> &[u8]
+    ensures { λ r. ⌜ IsPart (whole (now (s .entry)) (castCommand (bookOf rules) (now (s .entry)))) (s .entry) r ⌝ }
 {
-    part(s, cast_range(s))
+    part(s, cast_range(rules, s))
 }
 
-pub fn cast_mut(s: &mut [u8]) -> &mut [u8]
-    ensures { λ r. Ties 𝓤 H A (search needs) (whole (now (s .entry)) (castCommand dispatch commandCodes (now (s .entry)))) (s .entry) r ∗ ⌜ IsPart (whole (now (s .entry)) (castCommand dispatch commandCodes (now (s .entry)))) (s .entry) r ⌝ }
+pub fn cast_mut(rules: Rules, s: &mut [u8]) -> &mut [u8]
+    ensures { λ r. Ties 𝓤 H A (search needs) (whole (now (s .entry)) (castCommand (bookOf rules) (now (s .entry)))) (s .entry) r ∗ ⌜ IsPart (whole (now (s .entry)) (castCommand (bookOf rules) (now (s .entry)))) (s .entry) r ⌝ }
 {
-    let range = cast_range(s);
+    let range = cast_range(rules, s);
     part_mut(s, range)
 }
 
 // The command at the start of s.
-pub fn cast_prefix_range(s: &[u8]) -> Range
-    ensures { λ r. ⌜ saidRange r ≡ upTo (castCommandPrefix dispatch commandCodes (now (s .entry))) ⌝ }
+pub fn cast_prefix_range(rules: Rules, s: &[u8]) -> Range
+    ensures { λ r. ⌜ saidRange r ≡ upTo (castCommandPrefix (bookOf rules) (now (s .entry))) ⌝ }
 {
     match frame_prefix(s) {
         Count::Refused(e) => Range::Refused(e),
-        Count::Is(n) => match judge(&s[..n]) {
+        Count::Is(n) => match judge(rules, &s[..n]) {
             Divided::Refused(e) => Range::Refused(e),
             Divided::Is(_) => Range::Is { from: 0, to: n },
         },
     }
 }
 
-pub fn cast_prefix(s: &[u8]) -> &[u8]
-    ensures { λ r. ⌜ IsPart (upTo (castCommandPrefix dispatch commandCodes (now (s .entry)))) (s .entry) r ⌝ }
+pub fn cast_prefix(rules: Rules, s: &[u8]) -> &[u8]
+    ensures { λ r. ⌜ IsPart (upTo (castCommandPrefix (bookOf rules) (now (s .entry)))) (s .entry) r ⌝ }
 {
-    part(s, cast_prefix_range(s))
+    part(s, cast_prefix_range(rules, s))
 }
 
-pub fn cast_prefix_mut(s: &mut [u8]) -> &mut [u8]
-    ensures { λ r. Ties 𝓤 H A (search needs) (upTo (castCommandPrefix dispatch commandCodes (now (s .entry)))) (s .entry) r ∗ ⌜ IsPart (upTo (castCommandPrefix dispatch commandCodes (now (s .entry)))) (s .entry) r ⌝ }
+pub fn cast_prefix_mut(rules: Rules, s: &mut [u8]) -> &mut [u8]
+    ensures { λ r. Ties 𝓤 H A (search needs) (upTo (castCommandPrefix (bookOf rules) (now (s .entry)))) (s .entry) r ∗ ⌜ IsPart (upTo (castCommandPrefix (bookOf rules) (now (s .entry)))) (s .entry) r ⌝ }
 {
-    let range = cast_prefix_range(s);
+    let range = cast_prefix_range(rules, s);
     part_mut(s, range)
 }
 
 // What stands behind the command at the start of s.
-fn prefix_tail_range(s: &[u8]) -> Range
-    ensures { λ r. ⌜ saidRange r ≡ behind (upTo (castCommandPrefix dispatch commandCodes (now (s .entry)))) (length (now (s .entry))) ⌝ }
+fn prefix_tail_range(rules: Rules, s: &[u8]) -> Range
+    ensures { λ r. ⌜ saidRange r ≡ behind (upTo (castCommandPrefix (bookOf rules) (now (s .entry)))) (length (now (s .entry))) ⌝ }
 {
-    behind(cast_prefix_range(s), s.len())
+    behind(cast_prefix_range(rules, s), s.len())
 }
 
-pub fn cast_prefix_tail(s: &[u8]) -> &[u8]
-    ensures { λ r. ⌜ IsPart (behind (upTo (castCommandPrefix dispatch commandCodes (now (s .entry)))) (length (now (s .entry)))) (s .entry) r ⌝ }
+pub fn cast_prefix_tail(rules: Rules, s: &[u8]) -> &[u8]
+    ensures { λ r. ⌜ IsPart (behind (upTo (castCommandPrefix (bookOf rules) (now (s .entry)))) (length (now (s .entry)))) (s .entry) r ⌝ }
 {
-    part(s, prefix_tail_range(s))
+    part(s, prefix_tail_range(rules, s))
 }
 
-pub fn cast_prefix_tail_mut(s: &mut [u8]) -> &mut [u8]
-    ensures { λ r. Ties 𝓤 H A (search needs) (behind (upTo (castCommandPrefix dispatch commandCodes (now (s .entry)))) (length (now (s .entry)))) (s .entry) r ∗ ⌜ IsPart (behind (upTo (castCommandPrefix dispatch commandCodes (now (s .entry)))) (length (now (s .entry)))) (s .entry) r ⌝ }
+pub fn cast_prefix_tail_mut(rules: Rules, s: &mut [u8]) -> &mut [u8]
+    ensures { λ r. Ties 𝓤 H A (search needs) (behind (upTo (castCommandPrefix (bookOf rules) (now (s .entry)))) (length (now (s .entry)))) (s .entry) r ∗ ⌜ IsPart (behind (upTo (castCommandPrefix (bookOf rules) (now (s .entry)))) (length (now (s .entry)))) (s .entry) r ⌝ }
 {
-    let range = prefix_tail_range(s);
+    let range = prefix_tail_range(rules, s);
     part_mut(s, range)
 }
 
 // ---- the full check
 
 // The areas, where the entries pass.
-fn divide(s: &[u8]) -> Divided
-    ensures { λ r. ⌜ saidAreas r ≡ areasOf (readCommand dispatch commandCodes (now (s .entry))) ⌝ }
+fn divide(rules: Rules, s: &[u8]) -> Divided
+    ensures { λ r. ⌜ saidAreas r ≡ areasOf (readCommand (bookOf rules) (now (s .entry))) ⌝ }
 {
-    match cast_areas(s) {
+    match cast_areas(rules, s) {
         Divided::Refused(e) => Divided::Refused(e),
         Divided::Is(a) => {
             let to = a.to;
@@ -314,20 +315,20 @@ fn divide(s: &[u8]) -> Divided
     }
 }
 
-pub fn validate(s: &[u8]) -> Outcome
-    ensures { λ r. ⌜ saidOutcome r ≡ done (readCommand dispatch commandCodes (now (s .entry))) ⌝ }
+pub fn validate(rules: Rules, s: &[u8]) -> Outcome
+    ensures { λ r. ⌜ saidOutcome r ≡ done (readCommand (bookOf rules) (now (s .entry))) ⌝ }
 {
-    match divide(s) {
+    match divide(rules, s) {
         Divided::Refused(e) => Outcome::Refused(e),
         Divided::Is(_) => Outcome::Done,
     }
 }
 
 // All parts of a passing command.
-pub fn parts(s: &[u8]) -> CommandRead
-    ensures { λ r. ⌜ saidCommand r ≡ commandByValue (now (s .entry)) (readCommand dispatch commandCodes (now (s .entry))) ⌝ }
+pub fn parts(rules: Rules, s: &[u8]) -> CommandRead
+    ensures { λ r. ⌜ saidCommand r ≡ commandByValue (now (s .entry)) (readCommand (bookOf rules) (now (s .entry))) ⌝ }
 {
-    match divide(s) {
+    match divide(rules, s) {
         Divided::Refused(e) => CommandRead::Refused(e),
         Divided::Is(a) => {
             let from = a.from;

@@ -6,7 +6,10 @@ ghost use lib.ListN.{length};
 ghost use Rattle.base.specs.Answer.{saidCount, saidNumber32, saidOutcome, saidTag};
 ghost use Rattle.base.specs.Error.{numbered};
 ghost use Rattle.base.specs.Said.{after, done};
-ghost use Rattle.frame.specs.Header.{framePrefix, frameWhole, isOfTwo, readFrameTag, readSize, readTag, setTag};
+ghost use Rattle.frame.specs.Header.{framePrefix, frameWhole, isOfTwo, isResponseTag, isRspCommand, readCommandTag, readResponseTag, readSize, readTag, setTag};
+ghost use Rattle.frame.specs.Rules.{bookOf};
+use crate::rules::Rules;
+use crate::rules::knows_bad_tag;
 use base::answer::Count;
 use base::answer::Number32;
 use base::answer::Outcome;
@@ -25,6 +28,11 @@ pub const HEADER_SIZE: usize = 10;
 pub const PLAIN: u16 = 0x8001;
 
 pub const SESSIONS: u16 = 0x8002;
+
+// The tag and the code of the answer to a bad tag (Part 2, TPM_ST_RSP_COMMAND and TPM_RC_BAD_TAG).
+pub const RSP_COMMAND: u16 = 0x00c4;
+
+pub const BAD_TAG: u32 = 0x1e;
 
 // The refusal of bytes that have no whole header.
 pub(crate) fn short(len: usize) -> TpmError
@@ -59,15 +67,43 @@ fn is_of_two(tag: TpmSt) -> bool
     tag.0 == PLAIN || tag.0 == SESSIONS
 }
 
-// The tag of a frame, one of the two.
-pub(crate) fn frame_tag(s: &[u8]) -> Tag
-    ensures { λ r. ⌜ saidTag r ≡ readFrameTag (now (s .entry)) ⌝ }
+// The tag of a command, one of the two.
+pub(crate) fn command_tag(s: &[u8]) -> Tag
+    ensures { λ r. ⌜ saidTag r ≡ readCommandTag (now (s .entry)) ⌝ }
 {
     if s.len() < HEADER_SIZE {
         return Tag::Refused(short(s.len()));
     }
     let tag = TpmSt(be16(s[0], s[1]));
     if is_of_two(tag) {
+        Tag::Is(tag)
+    } else {
+        Tag::Refused(tag.refused(0))
+    }
+}
+
+// The tag of the answer to a bad tag, by rules that have it.
+pub(crate) fn is_rsp_command(rules: Rules, tag: TpmSt) -> bool
+    ensures { λ r. ⌜ r ≡ isRspCommand (bookOf rules) (tag .0) ⌝ }
+{
+    knows_bad_tag(rules) && tag.0 == RSP_COMMAND
+}
+
+fn is_response_tag(rules: Rules, tag: TpmSt) -> bool
+    ensures { λ r. ⌜ r ≡ isResponseTag (bookOf rules) (tag .0) ⌝ }
+{
+    is_of_two(tag) || is_rsp_command(rules, tag)
+}
+
+// The tag of a response: one of the two, or that of the answer to a bad tag.
+pub(crate) fn response_tag(rules: Rules, s: &[u8]) -> Tag
+    ensures { λ r. ⌜ saidTag r ≡ readResponseTag (bookOf rules) (now (s .entry)) ⌝ }
+{
+    if s.len() < HEADER_SIZE {
+        return Tag::Refused(short(s.len()));
+    }
+    let tag = TpmSt(be16(s[0], s[1]));
+    if is_response_tag(rules, tag) {
         Tag::Is(tag)
     } else {
         Tag::Refused(tag.refused(0))

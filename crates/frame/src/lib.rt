@@ -3,5 +3,6 @@ pub mod areas;
 pub mod command;
 pub mod header;
 pub mod response;
+pub mod rules;
 pub mod session;
 pub mod walk;

@@ -6,21 +6,26 @@ ghost use lib.ListN.{length};
 ghost use Rattle.base.specs.Answer.{saidOutcome, saidRange, saidResponseCode};
 ghost use Rattle.base.specs.Parts.{IsPart, Ties, behind, upTo};
 ghost use Rattle.base.specs.Said.{after, done};
-ghost use Rattle.table.specs.Dispatch.{dispatch};
 ghost use Rattle.frame.specs.Answer.{areasOf, responseByValue, saidAreas, saidResponse, whole};
-ghost use Rattle.frame.specs.Header.{readRc, setRc};
+ghost use mathlib.Core.Bool.{_||_};
+ghost use lib.Dec.{eqb};
+ghost use Rattle.frame.specs.Header.{isRspCommand, plain, reads, readRc, setRc};
 ghost use Rattle.frame.specs.Response.{bodyRange, castResponse, castResponsePrefix, errorAreas, judgeResponse, readResponse, responseAreas, successAreas};
+ghost use Rattle.frame.specs.Rules.{bookOf};
 use crate::areas::Areas;
 use crate::areas::Divided;
 use crate::areas::handle_area;
 use crate::areas::sized_area;
+use crate::header::BAD_TAG;
 use crate::header::HEADER_SIZE;
 use crate::header::PLAIN;
 use crate::header::SESSIONS;
 use crate::header::frame_prefix;
-use crate::header::frame_tag;
 use crate::header::frame_whole;
+use crate::header::is_rsp_command;
+use crate::header::response_tag;
 use crate::header::short;
+use crate::rules::Rules;
 use crate::session::Entries;
 use crate::walk::entries;
 use crate::walk::walk;
@@ -63,34 +68,49 @@ pub enum ResponseRead {
 
 // ---- the code
 
-// The response code, one that reads. Success is what most responses say, and it reads.
-pub fn rc(s: &[u8]) -> ResponseCode
-    ensures { λ r. ⌜ saidResponseCode r ≡ readRc (now (s .entry)) ⌝ }
+// Whether a code reads under a tag. Success is what most responses say, and it reads.
+fn reads(rules: Rules, tag: TpmSt, rc: TpmRc) -> bool
+    ensures { λ r. ⌜ r ≡ reads (bookOf rules) (tag .0) (rc .0) ⌝ }
+{
+    if is_rsp_command(rules, tag) {
+        return rc.0 == BAD_TAG;
+    }
+    if rc.0 == 0 {
+        return true;
+    }
+    match read(rc) {
+        Answer::Code(_) => true,
+        Answer::Refused(_) => false,
+    }
+}
+
+// The response code, one that reads.
+pub fn rc(rules: Rules, s: &[u8]) -> ResponseCode
+    ensures { λ r. ⌜ saidResponseCode r ≡ readRc (bookOf rules) (now (s .entry)) ⌝ }
 {
     if s.len() < HEADER_SIZE {
         return ResponseCode::Refused(short(s.len()));
     }
     let rc = TpmRc(be32(s[6], s[7], s[8], s[9]));
-    if rc.0 == 0 {
-        return ResponseCode::Is(rc);
-    }
-    match read(rc) {
-        Answer::Code(_) => ResponseCode::Is(rc),
-        Answer::Refused(_) => ResponseCode::Refused(rc.refused(6)),
+    if reads(rules, TpmSt(be16(s[0], s[1])), rc) {
+        ResponseCode::Is(rc)
+    } else {
+        ResponseCode::Refused(rc.refused(6))
     }
 }
 
 // Changes the response code to one that reads, and nothing else.
-pub fn set_rc(s: &mut [u8], rc: TpmRc) -> Outcome
-    ensures answer { λ r. ⌜ saidOutcome r ≡ done (setRc (rc .0) (now (s .entry))) ⌝ }
-    ensures bytes { λ r. ⌜ now (s .exit) ≡ after (now (s .entry)) (setRc (rc .0) (now (s .entry))) ⌝ }
+pub fn set_rc(rules: Rules, s: &mut [u8], rc: TpmRc) -> Outcome
+    ensures answer { λ r. ⌜ saidOutcome r ≡ done (setRc (bookOf rules) (rc .0) (now (s .entry))) ⌝ }
+    ensures bytes { λ r. ⌜ now (s .exit) ≡ after (now (s .entry)) (setRc (bookOf rules) (rc .0) (now (s .entry))) ⌝ }
 {
     if s.len() < HEADER_SIZE {
         return Outcome::Refused(short(s.len()));
     }
-    match read(rc) {
-        Answer::Refused(_) => Outcome::Refused(rc.refused(0)),
-        Answer::Code(_) => write_u32(s, 6, rc.0),
+    if reads(rules, TpmSt(be16(s[0], s[1])), rc) {
+        write_u32(s, 6, rc.0)
+    } else {
+        Outcome::Refused(rc.refused(0))
     }
 }
 
@@ -124,28 +144,28 @@ pub fn body_mut(s: &mut [u8]) -> &mut [u8]
 // ---- casts
 
 // What is judged of a response behind its size: its code, where it passes.
-fn judge(s: &[u8]) -> ResponseCode
-    ensures { λ r. ⌜ saidResponseCode r ≡ judgeResponse (now (s .entry)) ⌝ }
+fn judge(rules: Rules, s: &[u8]) -> ResponseCode
+    ensures { λ r. ⌜ saidResponseCode r ≡ judgeResponse (bookOf rules) (now (s .entry)) ⌝ }
 {
-    match frame_tag(s) {
+    match response_tag(rules, s) {
         Tag::Refused(e) => ResponseCode::Refused(e),
-        Tag::Is(_) => rc(s),
+        Tag::Is(_) => rc(rules, s),
     }
 }
 
-fn cast_code(s: &[u8]) -> ResponseCode
-    ensures { λ r. ⌜ saidResponseCode r ≡ castResponse (now (s .entry)) ⌝ }
+fn cast_code(rules: Rules, s: &[u8]) -> ResponseCode
+    ensures { λ r. ⌜ saidResponseCode r ≡ castResponse (bookOf rules) (now (s .entry)) ⌝ }
 {
     match frame_whole(s) {
         Count::Refused(e) => ResponseCode::Refused(e),
-        Count::Is(_) => judge(s),
+        Count::Is(_) => judge(rules, s),
     }
 }
 
-pub fn cast_range(s: &[u8]) -> Range
-    ensures { λ r. ⌜ saidRange r ≡ whole (now (s .entry)) (castResponse (now (s .entry))) ⌝ }
+pub fn cast_range(rules: Rules, s: &[u8]) -> Range
+    ensures { λ r. ⌜ saidRange r ≡ whole (now (s .entry)) (castResponse (bookOf rules) (now (s .entry))) ⌝ }
 {
-    match cast_code(s) {
+    match cast_code(rules, s) {
         ResponseCode::Refused(e) => Range::Refused(e),
         ResponseCode::Is(_) => Range::Is {
             from: 0,
@@ -154,62 +174,62 @@ pub fn cast_range(s: &[u8]) -> Range
     }
 }
 
-pub fn cast(s: &[u8]) -> &[u8]
-    ensures { λ r. ⌜ IsPart (whole (now (s .entry)) (castResponse (now (s .entry)))) (s .entry) r ⌝ }
+pub fn cast(rules: Rules, s: &[u8]) -> &[u8]
+    ensures { λ r. ⌜ IsPart (whole (now (s .entry)) (castResponse (bookOf rules) (now (s .entry)))) (s .entry) r ⌝ }
 {
-    part(s, cast_range(s))
+    part(s, cast_range(rules, s))
 }
 
-pub fn cast_mut(s: &mut [u8]) -> &mut [u8]
-    ensures { λ r. Ties 𝓤 H A (search needs) (whole (now (s .entry)) (castResponse (now (s .entry)))) (s .entry) r ∗ ⌜ IsPart (whole (now (s .entry)) (castResponse (now (s .entry)))) (s .entry) r ⌝ }
+pub fn cast_mut(rules: Rules, s: &mut [u8]) -> &mut [u8]
+    ensures { λ r. Ties 𝓤 H A (search needs) (whole (now (s .entry)) (castResponse (bookOf rules) (now (s .entry)))) (s .entry) r ∗ ⌜ IsPart (whole (now (s .entry)) (castResponse (bookOf rules) (now (s .entry)))) (s .entry) r ⌝ }
 {
-    let range = cast_range(s);
+    let range = cast_range(rules, s);
     part_mut(s, range)
 }
 
 // The response at the start of s.
-pub fn cast_prefix_range(s: &[u8]) -> Range
-    ensures { λ r. ⌜ saidRange r ≡ upTo (castResponsePrefix (now (s .entry))) ⌝ }
+pub fn cast_prefix_range(rules: Rules, s: &[u8]) -> Range
+    ensures { λ r. ⌜ saidRange r ≡ upTo (castResponsePrefix (bookOf rules) (now (s .entry))) ⌝ }
 {
     match frame_prefix(s) {
         Count::Refused(e) => Range::Refused(e),
-        Count::Is(n) => match judge(&s[..n]) {
+        Count::Is(n) => match judge(rules, &s[..n]) {
             ResponseCode::Refused(e) => Range::Refused(e),
             ResponseCode::Is(_) => Range::Is { from: 0, to: n },
         },
     }
 }
 
-pub fn cast_prefix(s: &[u8]) -> &[u8]
-    ensures { λ r. ⌜ IsPart (upTo (castResponsePrefix (now (s .entry)))) (s .entry) r ⌝ }
+pub fn cast_prefix(rules: Rules, s: &[u8]) -> &[u8]
+    ensures { λ r. ⌜ IsPart (upTo (castResponsePrefix (bookOf rules) (now (s .entry)))) (s .entry) r ⌝ }
 {
-    part(s, cast_prefix_range(s))
+    part(s, cast_prefix_range(rules, s))
 }
 
-pub fn cast_prefix_mut(s: &mut [u8]) -> &mut [u8]
-    ensures { λ r. Ties 𝓤 H A (search needs) (upTo (castResponsePrefix (now (s .entry)))) (s .entry) r ∗ ⌜ IsPart (upTo (castResponsePrefix (now (s .entry)))) (s .entry) r ⌝ }
+pub fn cast_prefix_mut(rules: Rules, s: &mut [u8]) -> &mut [u8]
+    ensures { λ r. Ties 𝓤 H A (search needs) (upTo (castResponsePrefix (bookOf rules) (now (s .entry)))) (s .entry) r ∗ ⌜ IsPart (upTo (castResponsePrefix (bookOf rules) (now (s .entry)))) (s .entry) r ⌝ }
 {
-    let range = cast_prefix_range(s);
+    let range = cast_prefix_range(rules, s);
     part_mut(s, range)
 }
 
 // What stands behind the response at the start of s.
-fn prefix_tail_range(s: &[u8]) -> Range
-    ensures { λ r. ⌜ saidRange r ≡ behind (upTo (castResponsePrefix (now (s .entry)))) (length (now (s .entry))) ⌝ }
+fn prefix_tail_range(rules: Rules, s: &[u8]) -> Range
+    ensures { λ r. ⌜ saidRange r ≡ behind (upTo (castResponsePrefix (bookOf rules) (now (s .entry)))) (length (now (s .entry))) ⌝ }
 {
-    behind(cast_prefix_range(s), s.len())
+    behind(cast_prefix_range(rules, s), s.len())
 }
 
-pub fn cast_prefix_tail(s: &[u8]) -> &[u8]
-    ensures { λ r. ⌜ IsPart (behind (upTo (castResponsePrefix (now (s .entry)))) (length (now (s .entry)))) (s .entry) r ⌝ }
+pub fn cast_prefix_tail(rules: Rules, s: &[u8]) -> &[u8]
+    ensures { λ r. ⌜ IsPart (behind (upTo (castResponsePrefix (bookOf rules) (now (s .entry)))) (length (now (s .entry)))) (s .entry) r ⌝ }
 {
-    part(s, prefix_tail_range(s))
+    part(s, prefix_tail_range(rules, s))
 }
 
-pub fn cast_prefix_tail_mut(s: &mut [u8]) -> &mut [u8]
-    ensures { λ r. Ties 𝓤 H A (search needs) (behind (upTo (castResponsePrefix (now (s .entry)))) (length (now (s .entry)))) (s .entry) r ∗ ⌜ IsPart (behind (upTo (castResponsePrefix (now (s .entry)))) (length (now (s .entry)))) (s .entry) r ⌝ }
+pub fn cast_prefix_tail_mut(rules: Rules, s: &mut [u8]) -> &mut [u8]
+    ensures { λ r. Ties 𝓤 H A (search needs) (behind (upTo (castResponsePrefix (bookOf rules) (now (s .entry)))) (length (now (s .entry)))) (s .entry) r ∗ ⌜ IsPart (behind (upTo (castResponsePrefix (bookOf rules) (now (s .entry)))) (length (now (s .entry)))) (s .entry) r ⌝ }
 {
-    let range = prefix_tail_range(s);
+    let range = prefix_tail_range(rules, s);
     part_mut(s, range)
 }
 
@@ -229,13 +249,20 @@ fn success_areas(responses: u8, s: &[u8]) -> Divided
     }
 }
 
-// The areas of an error response: a bare header under the plain tag.
-fn error_areas(s: &[u8]) -> Divided
+// An error stands under the plain tag, or is the answer to a bad tag.
+fn is_error_tag(rules: Rules, tag: TpmSt) -> bool
+    ensures { λ r. ⌜ r ≡ (eqb (tag .0) plain || isRspCommand (bookOf rules) (tag .0)) ⌝ }
+{
+    tag.0 == PLAIN || is_rsp_command(rules, tag)
+}
+
+// The areas of an error response: a bare header.
+fn error_areas(rules: Rules, s: &[u8]) -> Divided
     requires { ⌜ 10 ≤ length (now s) ⌝ }
-    ensures { λ r. ⌜ saidAreas r ≡ errorAreas (now (s .entry)) ⌝ }
+    ensures { λ r. ⌜ saidAreas r ≡ errorAreas (bookOf rules) (now (s .entry)) ⌝ }
 {
     let tag = TpmSt(be16(s[0], s[1]));
-    if tag.0 == PLAIN {
+    if is_error_tag(rules, tag) {
         if HEADER_SIZE < s.len() {
             return Divided::Refused(TpmError::TrailingData {
                 offset: HEADER_SIZE,
@@ -252,10 +279,10 @@ fn error_areas(s: &[u8]) -> Divided
     }
 }
 
-fn areas(cc: TpmCc, s: &[u8]) -> Divided
-    ensures { λ r. ⌜ saidAreas r ≡ responseAreas dispatch (cc .0) (now (s .entry)) ⌝ }
+fn areas(rules: Rules, cc: TpmCc, s: &[u8]) -> Divided
+    ensures { λ r. ⌜ saidAreas r ≡ responseAreas (bookOf rules) (cc .0) (now (s .entry)) ⌝ }
 {
-    match cast_code(s) {
+    match cast_code(rules, s) {
         ResponseCode::Refused(e) => Divided::Refused(e),
         ResponseCode::Is(code) => match find(cc) {
             Found::Refused(e) => Divided::Refused(e),
@@ -263,7 +290,7 @@ fn areas(cc: TpmCc, s: &[u8]) -> Divided
                 if code.0 == 0 {
                     success_areas(row.responses, s)
                 } else {
-                    error_areas(s)
+                    error_areas(rules, s)
                 }
             }
         },
@@ -271,10 +298,10 @@ fn areas(cc: TpmCc, s: &[u8]) -> Divided
 }
 
 // The areas, where the entries pass.
-fn divide(cc: TpmCc, s: &[u8]) -> Divided
-    ensures { λ r. ⌜ saidAreas r ≡ areasOf (readResponse dispatch (cc .0) (now (s .entry))) ⌝ }
+fn divide(rules: Rules, cc: TpmCc, s: &[u8]) -> Divided
+    ensures { λ r. ⌜ saidAreas r ≡ areasOf (readResponse (bookOf rules) (cc .0) (now (s .entry))) ⌝ }
 {
-    match areas(cc, s) {
+    match areas(rules, cc, s) {
         Divided::Refused(e) => Divided::Refused(e),
         Divided::Is(a) => match walk(false, s, a.to) {
             Outcome::Refused(e) => Divided::Refused(e),
@@ -283,20 +310,20 @@ fn divide(cc: TpmCc, s: &[u8]) -> Divided
     }
 }
 
-pub fn validate(cc: TpmCc, s: &[u8]) -> Outcome
-    ensures { λ r. ⌜ saidOutcome r ≡ done (readResponse dispatch (cc .0) (now (s .entry))) ⌝ }
+pub fn validate(rules: Rules, cc: TpmCc, s: &[u8]) -> Outcome
+    ensures { λ r. ⌜ saidOutcome r ≡ done (readResponse (bookOf rules) (cc .0) (now (s .entry))) ⌝ }
 {
-    match divide(cc, s) {
+    match divide(rules, cc, s) {
         Divided::Refused(e) => Outcome::Refused(e),
         Divided::Is(_) => Outcome::Done,
     }
 }
 
 // All parts of a passing response.
-pub fn parts(cc: TpmCc, s: &[u8]) -> ResponseRead
-    ensures { λ r. ⌜ saidResponse r ≡ responseByValue (now (s .entry)) (readResponse dispatch (cc .0) (now (s .entry))) ⌝ }
+pub fn parts(rules: Rules, cc: TpmCc, s: &[u8]) -> ResponseRead
+    ensures { λ r. ⌜ saidResponse r ≡ responseByValue (now (s .entry)) (readResponse (bookOf rules) (cc .0) (now (s .entry))) ⌝ }
 {
-    match divide(cc, s) {
+    match divide(rules, cc, s) {
         Divided::Refused(e) => ResponseRead::Refused(e),
         Divided::Is(a) => ResponseRead::Is(Response {
             tag: TpmSt(be16(s[0], s[1])),

@@ -1,4 +1,4 @@
--- Writing a command and reading it, over any rows: what the writer takes is a passing command whose parts are those handed over; and the
+-- Writing a command and reading it, by any rules: what the writer takes is a passing command whose parts are those handed over; and the
 -- parts read from a passing command, written into enough room, give its bytes again, but under the sessions tag with no entry.
 -- Assumes nothing.
 use mathlib.Core.Path.{_≡_, sym, _∙_, ap, subst}
@@ -21,6 +21,7 @@ use Rattle.frame.specs.Command.{Division, castCommand, readCommand}
 use Rattle.frame.specs.Header.{sessions, isOfTwo}
 use Rattle.frame.specs.Layout.{CommandParts, layoutCommand}
 use Rattle.frame.specs.Parts.{commandParts}
+use Rattle.frame.specs.Rules.{Rulebook}
 use Rattle.frame.specs.Walk.{walk, byValue}
 use Rattle.frame.proofs.CommandLaws.{command-divides}
 use Rattle.frame.proofs.FrameLaws.{is-of-two, of-the-two}
@@ -35,11 +36,11 @@ use Rattle.marshal.proofs.Writers.{tag-two, wrong-tag, command-passed, 
 abbrev pub commandHanded : List ℕ → Command → Handed
 commandHanded s c = handedBack s (c .handles) (c .entries) (c .parameters)
 
-module _ (rows : List Row) where
-  pub command-formed : (tag code : ℕ) (h : Handed) (room : ℕ) {t : List ℕ} → writeCommand rows tag code h room ≡ gives t → OfTypes h → code < 4294967296
-      → CommandParts rows (commandFrame tag code h) × (t ≡ layoutCommand (commandFrame tag code h))
+module _ (book : Rulebook) where
+  pub command-formed : (tag code : ℕ) (h : Handed) (room : ℕ) {t : List ℕ} → writeCommand book tag code h room ≡ gives t → OfTypes h → code < 4294967296
+      → CommandParts book (commandFrame tag code h) × (t ≡ layoutCommand (commandFrame tag code h))
   command-formed tag code h room {t} written types fits =
-      let p = command-passed rows tag code h room written in (
+      let p = command-passed book tag code h room written in (
         record {
           row = p .row;
           has-row = p .has-row;
@@ -58,24 +59,24 @@ module _ (rows : List Row) where
         p .layout-is,
       )
 
-  module _ (known : List ℕ) (holds : (c : ℕ) (r : Row) → rowFor rows c ≡ gives r → isIn c known ≡ true)
+  module _ (holds : (c : ℕ) (r : Row) → rowFor (book .rows) c ≡ gives r → isIn c (book .known) ≡ true)
       (two-tags : (g : ℕ) → isOfTwo g ≡ true → isIn g tags ≡ true) where
     -- ---- what is written passes, and its parts are those handed over
 
-    pub command-reads : (tag code : ℕ) (h : Handed) (room : ℕ) {t : List ℕ} → writeCommand rows tag code h room ≡ gives t → OfTypes h → code < 4294967296
-        → (c : Command) × (commandByValue t (readCommand rows known t) ≡ gives c) × (commandParts t c ≡ commandFrame tag code h)
+    pub command-reads : (tag code : ℕ) (h : Handed) (room : ℕ) {t : List ℕ} → writeCommand book tag code h room ≡ gives t → OfTypes h → code < 4294967296
+        → (c : Command) × (commandByValue t (readCommand book t) ≡ gives c) × (commandParts t c ≡ commandFrame tag code h)
     command-reads tag code h room written types fits =
         let formed = command-formed tag code h room written types fits in
-        rw (formed .1) (command-divides rows known holds two-tags .parts-read (commandFrame tag code h) (formed .0))
+        rw (formed .1) (command-divides book holds two-tags .parts-read (commandFrame tag code h) (formed .0))
 
     -- ---- what was read is written again
 
-    module _ (s : List ℕ) (c : Command) (read : commandByValue s (readCommand rows known s) ≡ gives c) where
+    module _ (s : List ℕ) (c : Command) (read : commandByValue s (readCommand book s) ≡ gives c) where
       stand : Stand s (c .entries)
       unfolding readCommand
       stand =
-          let division = then-gives (readCommand rows known s) _ read in
-          let cast = then-gives (castCommand rows known s) _ (division .1) in
+          let division = then-gives (readCommand book s) _ read in
+          let cast = then-gives (castCommand book s) _ (division .1) in
           let area = take (cast .0 .to) s in
           let entries = then-gives (walk 3 4 area (cast .0 .from)) _ (cast .2) in
           let short = length-take (cast .0 .to) s in
@@ -85,15 +86,15 @@ module _ (rows : List Row) where
 
       -- the parts that were read, written into enough room, give the same bytes ..
       pub command-again : AreBytes s → (room : ℕ) → length s ≤ room → (eqb (c .tag .0) sessions ≡ true → c .entries .count ≡ 0 → ⊥)
-          → writeCommand rows (c .tag .0) (c .cc .0) (commandHanded s c) room ≡ gives s
+          → writeCommand book (c .tag .0) (c .cc .0) (commandHanded s c) room ≡ gives s
       unfolding commandParts
       command-again are room enough some =
-          let formed : CommandParts rows (commandParts s c) × (layoutCommand (commandParts s c) ≡ s) =
-          command-divides rows known holds two-tags .again s are c read in
+          let formed : CommandParts book (commandParts s c) × (layoutCommand (commandParts s c) ≡ s) =
+          command-divides book holds two-tags .again s are c read in
           let parts = formed .0 in
           let h = commandHanded s c in
           let small : length s < 4294967296 = rw (formed .1) at (parts .size-fits) in
-          passed-command rows (c .tag .0) (c .cc .0) h room (record {
+          passed-command book (c .tag .0) (c .cc .0) h room (record {
             tag-is =
                 tag-goes (c .tag .0) (c .entries .count) (is-of-two (c .tag .0) (parts .well-formed .tag-of-two))
                 (λ q. sym (count-is s (c .entries) (stand .0)) ∙ ap length (parts .well-formed .plain-entries q)) some;
@@ -112,7 +113,7 @@ module _ (rows : List Row) where
 
   -- .. but under the sessions tag with no entry the command is refused with InvalidTag
   pub command-empty : (s : List ℕ) (c : Command) (room : ℕ) → c .tag .0 ≡ sessions → c .entries .count ≡ 0
-      → writeCommand rows (c .tag .0) (c .cc .0) (commandHanded s c) room ≡ refuses (3 ∷ 0 ∷ 0x8002 ∷ [])
+      → writeCommand book (c .tag .0) (c .cc .0) (commandHanded s c) room ≡ refuses (3 ∷ 0 ∷ 0x8002 ∷ [])
   command-empty s c room tag none =
-      sym (wrong-tag rows (c .tag .0) (c .cc .0) (commandHanded s c) room (λ e. let other : c .tag .0 ≡ tagFor 0 = rw none at e in omega arith))
+      sym (wrong-tag book (c .tag .0) (c .cc .0) (commandHanded s c) room (λ e. let other : c .tag .0 ≡ tagFor 0 = rw none at e in omega arith))
       ∙ ap (λ (n : ℕ). refuses (3 ∷ 0 ∷ n ∷ [])) tag

@@ -11,11 +11,11 @@ use lib.ListN.{length, length-append}
 use Rattle.base.specs.Bytes.{bytes}
 use Rattle.base.specs.Said.{gives}
 use Rattle.base.proofs.Bytes.{length-bytes}
-use Rattle.frame.specs.Header.{plain, sessions}
+use Rattle.frame.specs.Header.{plain, sessions, rspCommand}
 use Rattle.frame.specs.Layout.{Entry, layoutEntry, layoutEntries, sizeField, layoutBody, layoutFrame, layoutCommand, layoutResponse}
 use Rattle.frame.proofs.FrameLaws.{length-frame}
 use Rattle.frame.specs.Parts.{entriesOf}
-use Rattle.marshal.specs.Handed.{Handed, entriesHanded, withoutHandles, tagFor, commandFrame, successFrame, errorFrame}
+use Rattle.marshal.specs.Handed.{Handed, entriesHanded, withoutHandles, tagFor, commandFrame, successFrame, errorTag, errorFrame}
 use Rattle.base.specs.Field.{laid}
 use Rattle.marshal.specs.Laid.{Puts}
 use Rattle.marshal.specs.Write.{sessionsThere, totalSize}
@@ -94,9 +94,10 @@ length-header : (tag total code : ℕ) → length (headerOf tag total code) ≡ 
 length-header tag total code = simp (length-append, length-bytes)
 
 -- an error response is a header alone
-pub error-layout : (code : ℕ) → layoutResponse (errorFrame code) ≡ headerOf plain 10 code
+pub error-layout : (asked : Bool) (code : ℕ) → layoutResponse (errorFrame asked code) ≡ headerOf (errorTag asked) 10 code
 unfolding layoutResponse
-error-layout code = ap (λ (t : List ℕ). bytes 2 plain ++ (bytes 4 10 ++ t)) (append-nil (bytes 4 code))
+error-layout true code = ap (λ (t : List ℕ). bytes 2 rspCommand ++ (bytes 4 10 ++ t)) (append-nil (bytes 4 code))
+error-layout false code = ap (λ (t : List ℕ). bytes 2 plain ++ (bytes 4 10 ++ t)) (append-nil (bytes 4 code))
 
 module _ (tag code total : ℕ) (handles sized rest room : List ℕ)
     (whole : total ≡ 10 + length (layoutBody tag handles sized rest)) (fits : total ≤ length room) where

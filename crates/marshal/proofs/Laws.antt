@@ -1,12 +1,12 @@
--- The last sentence of demand 3 at the port's own table: what a writer takes is a passing frame, and reading it gives the parts handed
+-- The last sentence of demand 3, by the rules that a caller names: what a writer takes is a passing frame, and reading it gives the parts handed
 -- over; the parts read from a passing frame, written into enough room, give the same bytes, but under the sessions tag with no entry;
 -- a writer refuses with 7 exactly where document 01 says; and a refused call leaves the room as it was. First the laws of the
 -- definitions, then of what callers are answered; these also say which frames are taken.
--- The laws themselves hold over any rows, and for commands over any list of known codes that has the rows' codes (CommandWriting,
+-- The laws themselves hold by any rules, and for commands by any whose known codes have the rows' codes (CommandWriting,
 -- ResponseWriting, Taking, TooLarge).
 -- Assumes nothing.
-use mathlib.Core.Path.{_≡_, _∙_, ap}
-use mathlib.Core.Bool.{true}
+use mathlib.Core.Path.{_≡_, refl, _∙_, ap}
+use mathlib.Core.Bool.{Bool, true}
 use mathlib.Core.List.{List, [], _∷_, _++_}
 use mathlib.Core.Logic.{_↔_}
 use Prim.Native.Nat.{ℕ, _+_, _-_, _≤_, _<_}
@@ -27,13 +27,19 @@ use Rattle.frame.specs.declared.command.Command.{Command}
 use Rattle.frame.specs.declared.response.Response.{Response}
 use Rattle.frame.specs.Answer.{commandByValue, responseByValue}
 use Rattle.frame.specs.Command.{readCommand}
-use Rattle.frame.specs.Header.{sessions}
+use Rattle.frame.specs.Header.{sessions, rspCommand}
 use Rattle.frame.specs.Layout.{ResponseParts, layoutCommand, layoutResponse}
 use Rattle.frame.specs.Parts.{commandParts, responseParts}
 use Rattle.frame.specs.Response.{readResponse}
+use Rattle.frame.specs.Rules.{Rulebook, admitsBadTag, bookOf}
+use Rattle.frame.specs.declared.rules.Rules.{Rules}
 use Rattle.frame.proofs.FrameLaws.{two-tags}
 use Rattle.frame.proofs.Laws.{Promised}
 use Rattle.marshal.specs.Handed.{Handed, handed, commandFrame}
+use Rattle.marshal.specs.Mode.{asked, asksBadTag, bookFor, readingOf}
+use Rattle.marshal.specs.declared.mode.Mode.{Mode}
+use Rattle.marshal.specs.declared.mode.Mode.the-variants as mode
+use Rattle.marshal.specs.declared.mode.ResponseRules.{ResponseRules}
 use Rattle.marshal.specs.Write.{counted, roomAfter, writeCommand, writeResponse}
 use Rattle.marshal.proofs.Calls.{Writes, Written, Refused, writes, is-written, is-refused, refused-exactly}
 use Rattle.marshal.proofs.CommandWriting as command
@@ -53,6 +59,15 @@ use Rattle.marshal.proofs.response.write.Reads as response-write-reads
 has-code : (code : ℕ) (r : Row) → rowFor dispatch code ≡ gives r → isIn code commandCodes ≡ true
 has-code code r found = row-known code found
 
+-- what is asked for in a mode is there in the rules that go with it
+mode-may : (m : Mode) → asksBadTag m ≡ true → admitsBadTag (readingOf m) ≡ true
+mode-may mode.Rust e = e
+mode-may mode.Standard e = refl
+mode-may mode.BadTag e = refl
+
+may-ask : (rules : ResponseRules) → asked rules ≡ true → bookFor rules .answersBadTag ≡ true
+may-ask rules = mode-may (rules .mode)
+
 -- a call answers `counted` and leaves `roomAfter` of what its definition gives for the length of the room
 module _ (room : List ℕ) where
   abbrev Wrote : Said (List ℕ) → List ℕ → Type 0
@@ -60,54 +75,58 @@ module _ (room : List ℕ) where
 
   -- ---- commands
 
-  pub command-reads : (tag code : ℕ) (h : Handed) {n : ℕ} → counted (writeCommand dispatch tag code h (length room)) ≡ gives n
-      → OfTypes h → code < 4294967296
-      → let t = take n (roomAfter room (writeCommand dispatch tag code h (length room))) in
-      (c : Command) × (commandByValue t (readCommand dispatch commandCodes t) ≡ gives c) × (commandParts t c ≡ commandFrame tag code h)
-  command-reads tag code h answer types fits =
-      let start = room-start room (writeCommand dispatch tag code h (length room)) answer in
-      rw (start .2) (command.command-reads dispatch commandCodes has-code two-tags tag code h (length room) (start .1) types fits)
+  module _ (rules : Rules) where
+    abbrev command-book : Rulebook
+    command-book = bookOf rules
 
-  module _ (s : List ℕ) (are : AreBytes s) (c : Command) (read : commandByValue s (readCommand dispatch commandCodes s) ≡ gives c) where
-    pub command-again : length s ≤ length room → (eqb (c .tag .0) sessions ≡ true → c .entries .count ≡ 0 → ⊥)
-        → Wrote (writeCommand dispatch (c .tag .0) (c .cc .0) (commandHanded s c) (length room)) s
-    command-again enough some = room-is room (command.command-again dispatch commandCodes has-code two-tags s c read are (length room) enough some)
+    pub command-reads : (tag code : ℕ) (h : Handed) {n : ℕ} → counted (writeCommand command-book tag code h (length room)) ≡ gives n
+        → OfTypes h → code < 4294967296
+        → let t = take n (roomAfter room (writeCommand command-book tag code h (length room))) in
+        (c : Command) × (commandByValue t (readCommand command-book t) ≡ gives c) × (commandParts t c ≡ commandFrame tag code h)
+    command-reads tag code h answer types fits =
+        let start = room-start room (writeCommand command-book tag code h (length room)) answer in
+        rw (start .2) (command.command-reads command-book has-code two-tags tag code h (length room) (start .1) types fits)
 
-    pub command-empty : c .tag .0 ≡ sessions → c .entries .count ≡ 0
-        → writeCommand dispatch (c .tag .0) (c .cc .0) (commandHanded s c) (length room) ≡ refuses (3 ∷ 0 ∷ 0x8002 ∷ [])
-    command-empty = command.command-empty dispatch s c (length room)
+    module _ (s : List ℕ) (are : AreBytes s) (c : Command) (read : commandByValue s (readCommand command-book s) ≡ gives c) where
+      pub command-again : length s ≤ length room → (eqb (c .tag .0) sessions ≡ true → c .entries .count ≡ 0 → ⊥)
+          → Wrote (writeCommand command-book (c .tag .0) (c .cc .0) (commandHanded s c) (length room)) s
+      command-again enough some = room-is room (command.command-again command-book has-code two-tags s c read are (length room) enough some)
+
+      pub command-empty : c .tag .0 ≡ sessions → c .entries .count ≡ 0
+          → writeCommand command-book (c .tag .0) (c .cc .0) (commandHanded s c) (length room) ≡ refuses (3 ∷ 0 ∷ 0x8002 ∷ [])
+      command-empty = command.command-empty command-book s c (length room)
 
   -- ---- responses to the command of a code
 
-  module _ (cc : ℕ) where
-    pub response-reads : (code : ℕ) (h : Handed) {n : ℕ} → counted (writeResponse dispatch cc code h (length room)) ≡ gives n
-        → OfTypes h → code < 4294967296
-        → let t = take n (roomAfter room (writeResponse dispatch cc code h (length room))) in
-        (r : Response) × (responseByValue t (readResponse dispatch cc t) ≡ gives r) × (responseParts t r ≡ responseFrame code h)
-    response-reads code h answer types fits =
-        let start = room-start room (writeResponse dispatch cc code h (length room)) answer in
-        rw (start .2) (response.response-reads dispatch cc code h (length room) (start .1) types fits)
+  module _ (rules : ResponseRules) (cc : ℕ) where
+    abbrev response-book : Rulebook
+    response-book = bookFor rules
 
-    module _ (s : List ℕ) (are : AreBytes s) (r : Response) (read : responseByValue s (readResponse dispatch cc s) ≡ gives r) where
+    pub response-reads : (code : ℕ) (h : Handed) {n : ℕ} → counted (writeResponse response-book (asked rules) cc code h (length room)) ≡ gives n
+        → OfTypes h → code < 4294967296
+        → let t = take n (roomAfter room (writeResponse response-book (asked rules) cc code h (length room))) in
+        (r : Response) × (responseByValue t (readResponse response-book cc t) ≡ gives r) × (responseParts t r ≡ responseFrame (asked rules) code h)
+    response-reads code h answer types fits =
+        let start = room-start room (writeResponse response-book (asked rules) cc code h (length room)) answer in
+        rw (start .2) (response.response-reads response-book cc (asked rules) (may-ask rules) code h (length room) (start .1) types fits)
+
+    module _ (s : List ℕ) (are : AreBytes s) (r : Response) (read : responseByValue s (readResponse response-book cc s) ≡ gives r)
+        (same : asked rules ≡ eqb (r .tag .0) rspCommand) where
       pub response-again : length s ≤ length room → (eqb (r .tag .0) sessions ≡ true → r .entries .count ≡ 0 → ⊥)
-          → Wrote (writeResponse dispatch cc (r .rc .0) (responseHanded s r) (length room)) s
-      response-again enough some = room-is room (response.response-again dispatch cc s are r read (length room) enough some)
+          → Wrote (writeResponse response-book (asked rules) cc (r .rc .0) (responseHanded s r) (length room)) s
+      response-again enough some =
+          room-is room
+          (ap (λ (b : Bool). writeResponse response-book b cc (r .rc .0) (responseHanded s r) (length room)) same
+          ∙ response.response-again response-book cc s are r read (length room) enough some)
 
       pub response-shorter : length s - 4 ≤ length room → r .tag .0 ≡ sessions → r .entries .count ≡ 0
-          → Wrote (writeResponse dispatch cc (r .rc .0) (responseHanded s r) (length room)) (shorter s r) × (length (shorter s r) + 4 ≡ length s)
+          → Wrote (writeResponse response-book (asked rules) cc (r .rc .0) (responseHanded s r) (length room)) (shorter s r)
+          × (length (shorter s r) + 4 ≡ length s)
       response-shorter enough tag none =
-          let wrote = response.response-shorter dispatch cc s are r read (length room) enough tag none in
-          (room-is room (wrote .0), wrote .1)
-
--- ---- a total that is too large
-
-pub command-too-large : (tag code : ℕ) (h : Handed) (room n : ℕ)
-    → (writeCommand dispatch tag code h room ≡ refuses (7 ∷ 0 ∷ n ∷ [])) ↔ CommandTooLarge dispatch tag code h n
-command-too-large = large.command-too-large dispatch
-
-pub response-too-large : (cc code : ℕ) (h : Handed) (room n : ℕ)
-    → (writeResponse dispatch cc code h room ≡ refuses (7 ∷ 0 ∷ n ∷ [])) ↔ ResponseTooLarge dispatch cc code h n
-response-too-large = large.response-too-large dispatch
+          let wrote = response.response-shorter response-book cc s are r read (length room) enough tag none in (
+            room-is room (ap (λ (b : Bool). writeResponse response-book b cc (r .rc .0) (responseHanded s r) (length room)) same ∙ wrote .0),
+            wrote .1,
+          )
 
 -- ---- what a refused call leaves
 
@@ -120,87 +139,91 @@ refused-leaves room e = ap (roomAfter room) e
 abbrev Bare : ℕ → ℕ → Type 0
 Bare tag count = (tag ≡ sessions) × (count ≡ 0)
 
-module _ (tag code : ℕ) (h : Handed) (room : List ℕ) (x : Count) (later : List ℕ) where
+module _ (book : Rulebook) (tag code : ℕ) (h : Handed) (room : List ℕ) (x : Count) (later : List ℕ) where
   abbrev CommandFrom : List ℕ → Command → Type 0
   CommandFrom s c = (tag ≡ c .tag .0) × (code ≡ c .cc .0) × (h ≡ commandHanded s c)
 
   -- a bare command is refused, and 7 is the answer exactly where the total is too large
   abbrev pub CommandWrites : Type 0
   CommandWrites =
-      Writes (λ s. commandByValue s (readCommand dispatch commandCodes s)) commandParts layoutCommand (CommandFormed dispatch)
+      Writes (λ s. commandByValue s (readCommand book s)) commandParts layoutCommand (CommandFormed book)
       CommandFrom (λ c. Bare (c .tag .0) (c .entries .count)) h code (commandFrame tag code h) room x later
       × ((s : List ℕ) (c : Command) → CommandFrom s c → Bare (c .tag .0) (c .entries .count) → Refused room x later (3 ∷ 0 ∷ 0x8002 ∷ []))
-      × ((n : ℕ) → (saidCount x ≡ refuses (7 ∷ 0 ∷ n ∷ [])) ↔ CommandTooLarge dispatch tag code h n)
+      × ((n : ℕ) → (saidCount x ≡ refuses (7 ∷ 0 ∷ n ∷ [])) ↔ CommandTooLarge book tag code h n)
 
   abbrev commandSaid : Said (List ℕ)
-  commandSaid = writeCommand dispatch tag code h (length room)
+  commandSaid = writeCommand book tag code h (length room)
 
-  command-writes : saidCount x ≡ counted commandSaid → later ≡ roomAfter room commandSaid → CommandWrites
-  command-writes answer bytes =
+  command-writes : ((c : ℕ) (r : Row) → rowFor (book .rows) c ≡ gives r → isIn c (book .known) ≡ true)
+      → saidCount x ≡ counted commandSaid → later ≡ roomAfter room commandSaid → CommandWrites
+  command-writes has answer bytes =
       let back : (s : List ℕ) (c : Command) → CommandFrom s c
-      → commandSaid ≡ writeCommand dispatch (c .tag .0) (c .cc .0) (commandHanded s c) (length room) =
-      λ s c from i. writeCommand dispatch (from .0 i) (from .1 i) (from .2 i) (length room) in (
-        writes room x later commandSaid answer bytes _ commandParts layoutCommand (CommandFormed dispatch) CommandFrom _ h code _
-            (λ t given types fits. command-taken dispatch tag code h (length room) given types fits)
-            (taken-command dispatch tag code h (length room))
-            (λ t given types fits. command.command-reads dispatch commandCodes has-code two-tags tag code h (length room) given types fits)
+      → commandSaid ≡ writeCommand book (c .tag .0) (c .cc .0) (commandHanded s c) (length room) =
+      λ s c from i. writeCommand book (from .0 i) (from .1 i) (from .2 i) (length room) in (
+        writes room x later commandSaid answer bytes _ commandParts layoutCommand (CommandFormed book) CommandFrom _ h code _
+            (λ t given types fits. command-taken book tag code h (length room) given types fits)
+            (taken-command book tag code h (length room))
+            (λ t given types fits. command.command-reads book has two-tags tag code h (length room) given types fits)
             (λ s are c read from enough some. back s c from
-            ∙ command.command-again dispatch commandCodes has-code two-tags s c read are (length room) enough
+            ∙ command.command-again book has two-tags s c read are (length room) enough
             (λ under none. some (eqb-true (c .tag .0) sessions under, none))),
         (λ s c from bare. is-refused room x later commandSaid answer bytes
-            (back s c from ∙ command.command-empty dispatch s c (length room) (bare .0) (bare .1))),
+            (back s c from ∙ command.command-empty book s c (length room) (bare .0) (bare .1))),
         (λ n.
             let told = refused-exactly room x later commandSaid answer bytes in
-            let large = command-too-large tag code h (length room) n in
-            ((λ e. large .0 (told .0 e)), (λ e. told .1 (large .1 e)))),
+            let too-large = large.command-too-large book tag code h (length room) n in
+            ((λ e. too-large .0 (told .0 e)), (λ e. told .1 (too-large .1 e)))),
       )
 
 pub command-write : Promised 4 command-write-kinds.ps command-write-kinds.r command-write-reads.Post
     (λ κs a x later.
-    let h : Handed = handed (now (a .1 .1 .0)) (a .1 .1 .1 .0) (now (a .1 .1 .1 .1 .0)) (now (a .1 .1 .1 .1 .1 .0)) in
-    CommandWrites (a .0 .0) (a .1 .0 .0) h (now (a .1 .1 .1 .1 .1 .1 .0)) x (now (later .1 .1 .1 .1 .1 .1 .0)))
-command-write κs a x v met = command-writes (a .0 .0) (a .1 .0 .0) _ _ x _ (met .0) (met .1)
+    let h : Handed = handed (now (a .1 .1 .1 .0)) (a .1 .1 .1 .1 .0) (now (a .1 .1 .1 .1 .1 .0)) (now (a .1 .1 .1 .1 .1 .1 .0)) in
+    CommandWrites (bookOf (a .0)) (a .1 .0 .0) (a .1 .1 .0 .0) h (now (a .1 .1 .1 .1 .1 .1 .1 .0)) x (now (later .1 .1 .1 .1 .1 .1 .1 .0)))
+command-write κs a x v met = command-writes (bookOf (a .0)) (a .1 .0 .0) (a .1 .1 .0 .0) _ _ x _ has-code (met .0) (met .1)
 
-module _ (cc code : ℕ) (h : Handed) (room : List ℕ) (x : Count) (later : List ℕ) where
+module _ (book : Rulebook) (asks : Bool) (cc code : ℕ) (h : Handed) (room : List ℕ) (x : Count) (later : List ℕ) where
+  -- the tag of the answer to a bad tag is asked for where it was read
   abbrev ResponseFrom : List ℕ → Response → Type 0
-  ResponseFrom s r = (code ≡ r .rc .0) × (h ≡ responseHanded s r)
+  ResponseFrom s r = (asks ≡ eqb (r .tag .0) rspCommand) × (code ≡ r .rc .0) × (h ≡ responseHanded s r)
 
   -- a bare response comes out four bytes shorter, and 7 is the answer exactly where the total is too large
   abbrev pub ResponseWrites : Type 0
   ResponseWrites =
-      Writes (λ s. responseByValue s (readResponse dispatch cc s)) responseParts layoutResponse (ResponseParts dispatch cc)
-      ResponseFrom (λ r. Bare (r .tag .0) (r .entries .count)) h code (responseFrame code h) room x later
-      × ((s : List ℕ) → AreBytes s → (r : Response) → responseByValue s (readResponse dispatch cc s) ≡ gives r → ResponseFrom s r
+      Writes (λ s. responseByValue s (readResponse book cc s)) responseParts layoutResponse (ResponseParts book cc)
+      ResponseFrom (λ r. Bare (r .tag .0) (r .entries .count)) h code (responseFrame asks code h) room x later
+      × ((s : List ℕ) → AreBytes s → (r : Response) → responseByValue s (readResponse book cc s) ≡ gives r → ResponseFrom s r
       → Bare (r .tag .0) (r .entries .count) → length s - 4 ≤ length room
       → Written room x later (shorter s r) × (length (shorter s r) + 4 ≡ length s))
-      × ((n : ℕ) → (saidCount x ≡ refuses (7 ∷ 0 ∷ n ∷ [])) ↔ ResponseTooLarge dispatch cc code h n)
+      × ((n : ℕ) → (saidCount x ≡ refuses (7 ∷ 0 ∷ n ∷ [])) ↔ ResponseTooLarge book asks cc code h n)
 
   abbrev responseSaid : Said (List ℕ)
-  responseSaid = writeResponse dispatch cc code h (length room)
+  responseSaid = writeResponse book asks cc code h (length room)
 
-  response-writes : saidCount x ≡ counted responseSaid → later ≡ roomAfter room responseSaid → ResponseWrites
-  response-writes answer bytes =
+  response-writes : (asks ≡ true → book .answersBadTag ≡ true) → saidCount x ≡ counted responseSaid → later ≡ roomAfter room responseSaid → ResponseWrites
+  response-writes may answer bytes =
       let back : (s : List ℕ) (r : Response) → ResponseFrom s r
-      → responseSaid ≡ writeResponse dispatch cc (r .rc .0) (responseHanded s r) (length room) =
-      λ s r from i. writeResponse dispatch cc (from .0 i) (from .1 i) (length room) in (
-        writes room x later responseSaid answer bytes _ responseParts layoutResponse (ResponseParts dispatch cc) ResponseFrom _ h code _
-            (λ t given types fits. response-taken dispatch cc code h (length room) given types fits)
-            (taken-response dispatch cc code h (length room))
-            (λ t given types fits. response.response-reads dispatch cc code h (length room) given types fits)
+      → responseSaid ≡ writeResponse book (eqb (r .tag .0) rspCommand) cc (r .rc .0) (responseHanded s r) (length room) =
+      λ s r from i. writeResponse book (from .0 i) cc (from .1 i) (from .2 i) (length room) in (
+        writes room x later responseSaid answer bytes _ responseParts layoutResponse (ResponseParts book cc) ResponseFrom _ h code _
+            (λ t given types fits. response-taken book asks cc code h (length room) may given types fits)
+            (taken-response book asks cc code h (length room))
+            (λ t given types fits. response.response-reads book cc asks may code h (length room) given types fits)
             (λ s are r read from enough some. back s r from
-            ∙ response.response-again dispatch cc s are r read (length room) enough
+            ∙ response.response-again book cc s are r read (length room) enough
             (λ under none. some (eqb-true (r .tag .0) sessions under, none))),
         (λ s are r read from bare enough.
-            let short = response.response-shorter dispatch cc s are r read (length room) enough (bare .0) (bare .1) in
+            let short = response.response-shorter book cc s are r read (length room) enough (bare .0) (bare .1) in
             (is-written room x later responseSaid answer bytes (back s r from ∙ short .0), short .1)),
         (λ n.
             let told = refused-exactly room x later responseSaid answer bytes in
-            let large = response-too-large cc code h (length room) n in
-            ((λ e. large .0 (told .0 e)), (λ e. told .1 (large .1 e)))),
+            let too-large = large.response-too-large book asks cc code h (length room) n in
+            ((λ e. too-large .0 (told .0 e)), (λ e. told .1 (too-large .1 e)))),
       )
 
 pub response-write : Promised 4 response-write-kinds.ps response-write-kinds.r response-write-reads.Post
     (λ κs a x later.
-    let h : Handed = handed (now (a .1 .1 .0)) (a .1 .1 .1 .0) (now (a .1 .1 .1 .1 .0)) (now (a .1 .1 .1 .1 .1 .0)) in
-    ResponseWrites (a .1 .0 .0) (a .0 .0) h (now (a .1 .1 .1 .1 .1 .1 .0)) x (now (later .1 .1 .1 .1 .1 .1 .0)))
-response-write κs a x v met = response-writes (a .1 .0 .0) (a .0 .0) _ _ x _ (met .0) (met .1)
+    let h : Handed = handed (now (a .1 .1 .1 .0)) (a .1 .1 .1 .1 .0) (now (a .1 .1 .1 .1 .1 .0)) (now (a .1 .1 .1 .1 .1 .1 .0)) in
+    ResponseWrites (bookFor (a .0)) (asked (a .0)) (a .1 .1 .0 .0) (a .1 .0 .0) h (now (a .1 .1 .1 .1 .1 .1 .1 .0)) x
+    (now (later .1 .1 .1 .1 .1 .1 .1 .0)))
+response-write κs a x v met =
+    response-writes (bookFor (a .0)) (asked (a .0)) (a .1 .1 .0 .0) (a .1 .0 .0) _ _ x _ (may-ask (a .0)) (met .0) (met .1)

@@ -1,33 +1,32 @@
--- Which frames the writers take, over any rows: those whose parts are well formed (and a command under the sessions tag has an entry), with
+-- Which frames the writers take, by any rules: those whose parts are well formed (and a command under the sessions tag has an entry), with
 -- as many entries as sessions were counted, each nonce and HMAC within the lent bytes, and room for the layout. What is taken is laid out.
 -- Assumes nothing.
 use mathlib.Core.Path.{_≡_, refl, sym, _∙_, ap}
 use mathlib.Core.Bool.{Bool, true, false, cond, false≢true}
 use mathlib.Core.List.{List, [], _∷_}
-use mathlib.Core.Logic.{inl, inr}
+use mathlib.Core.Logic.{_⊎_, inl, inr}
 use Prim.Native.Nat.{ℕ, _+_, _≤_, _<_}
 use native.Mathlib.Omega.{arith}
-use borrow.Author.Tests.{le-leb, eqb-true, eqb-false}
+use borrow.Author.Tests.{le-leb, eqb-true, eq-eqb}
 use lib.Dec.{eqb}
 use lib.ListN.{length}
-use Rattle.base.specs.Said.{gives, given}
-use Rattle.base.proofs.Checks.{passes}
-use Rattle.rc.specs.Code.{readCode}
-use Rattle.table.specs.declared.row.Row.{Row}
+use Rattle.base.specs.Said.{gives}
 use Rattle.frame.specs.declared.session.Session.{Session}
-use Rattle.frame.specs.Header.{sessions}
+use Rattle.frame.specs.Header.{plain, sessions}
 use Rattle.frame.specs.Layout.{Frame, CommandParts, ResponseParts, layoutCommand, layoutResponse}
 use Rattle.frame.specs.Parts.{entriesIn, entriesOf}
+use Rattle.frame.specs.Rules.{Rulebook}
+use Rattle.frame.proofs.BadTags.{erring}
 use Rattle.frame.proofs.FrameLaws.{is-of-two}
-use Rattle.marshal.specs.Handed.{Handed, tagFor, entriesHanded, commandFrame, successFrame, errorFrame}
+use Rattle.marshal.specs.Handed.{Handed, tagFor, entriesHanded, commandFrame, successFrame, errorTag, errorFrame}
 use Rattle.marshal.specs.Write.{sessionsThere, writeCommand, writeResponse}
 use Rattle.marshal.proofs.CommandWriting.{command-formed}
 use Rattle.marshal.proofs.Frames.{length-command, length-success}
 use Rattle.marshal.proofs.Lengths.{field-inside, session-fields, sessions-first}
 use Rattle.marshal.proofs.Parts.{OfTypes, count-is, length-without, tag-goes}
-use Rattle.marshal.proofs.ResponseWriting.{responseFrame, response-formed}
+use Rattle.marshal.proofs.ResponseWriting.{responseFrame, frame-errs, parted-errs, response-formed}
 use Rattle.marshal.proofs.Sessions.{entries-none}
-use Rattle.marshal.proofs.Writers.{command-passed, passed-command, response-passed, passed-success, passed-error, success-is, error-is, length-error}
+use Rattle.marshal.proofs.Writers.{Errs, command-passed, passed-command, response-passed, passed-success, success-is, error-is, length-error}
 
 -- the nonce and the HMAC of each session end within so many lent bytes
 abbrev pub Within : ℕ → List Session → Type 0
@@ -58,19 +57,19 @@ module _ (lent : List ℕ) where
       rw (le-leb (x .nonce .at + x .nonce .size) (length lent) (w .0 .0), le-leb (x .hmac .at + x .hmac .size) (length lent) (w .0 .1))
       (within-there es (w .1))
 
-module _ (rows : List Row) where
+module _ (book : Rulebook) where
   -- ---- commands
 
   -- well-formed parts, but not the sessions tag with no entry
   abbrev pub CommandFormed : Frame → Type 0
-  CommandFormed f = CommandParts rows f × (f .tag ≡ sessions → f .entries ≡ [] → ⊥)
+  CommandFormed f = CommandParts book f × (f .tag ≡ sessions → f .entries ≡ [] → ⊥)
 
   module _ (tag code : ℕ) (h : Handed) (room : ℕ) where
-    pub command-taken : {t : List ℕ} → writeCommand rows tag code h room ≡ gives t → OfTypes h → code < 4294967296
+    pub command-taken : {t : List ℕ} → writeCommand book tag code h room ≡ gives t → OfTypes h → code < 4294967296
         → Taken CommandFormed layoutCommand (commandFrame tag code h) h room
     command-taken written types fits =
-        let p = command-passed rows tag code h room written in
-        let formed = command-formed rows tag code h room written types fits in
+        let p = command-passed book tag code h room written in
+        let formed = command-formed book tag code h room written types fits in
         let count = count-is (h .lent) (h .sessions) (p .few) in
         record {
           formed = (
@@ -86,13 +85,13 @@ module _ (rows : List Row) where
         }
 
     pub taken-command : Taken CommandFormed layoutCommand (commandFrame tag code h) h room
-        → writeCommand rows tag code h room ≡ gives (layoutCommand (commandFrame tag code h))
+        → writeCommand book tag code h room ≡ gives (layoutCommand (commandFrame tag code h))
     taken-command t =
         let parts = t .formed .0 in
         let w = parts .well-formed in
         let there = within-there (h .lent) (entriesOf (h .sessions)) (t .within) in
         let small = parts .size-fits in
-        passed-command rows tag code h room (record {
+        passed-command book tag code h room (record {
           tag-is =
               tag-goes tag (h .sessions .count) (is-of-two tag (w .tag-of-two)) (λ q. sym (t .all-sessions) ∙ ap length (w .plain-entries q))
               (λ q none. t .formed .1 (eqb-true tag sessions q) (ap (entriesIn (h .lent)) (entries-none (h .sessions) none)));
@@ -111,60 +110,76 @@ module _ (rows : List Row) where
 
   -- ---- responses to the command of a code
 
-  module _ (cc code : ℕ) (h : Handed) (room : ℕ) where
-    pub response-taken : {t : List ℕ} → writeResponse rows cc code h room ≡ gives t → OfTypes h → code < 4294967296
-        → Taken (ResponseParts rows cc) layoutResponse (responseFrame code h) h room
-    response-taken {t} written types fits =
-        let p = response-passed rows cc code h room written in
-        let formed = response-formed rows cc code h room written types fits in
-        let room-for : length t ≤ room → length (layoutResponse (responseFrame code h)) ≤ room = λ k. rw (← formed .1) k in
+  module _ (asked : Bool) (cc code : ℕ) (h : Handed) (room : ℕ) where
+    pub response-taken : (asked ≡ true → book .answersBadTag ≡ true) → {t : List ℕ} → writeResponse book asked cc code h room ≡ gives t → OfTypes h
+        → code < 4294967296 → Taken (ResponseParts book cc) layoutResponse (responseFrame asked code h) h room
+    response-taken may {t} written types fits =
+        let p = response-passed book asked cc code h room written in
+        let formed = response-formed book cc asked may code h room written types fits in
+        let room-for : length t ≤ room → length (layoutResponse (responseFrame asked code h)) ≤ room = λ k. rw (← formed .1) k in
         elim (p .either-kind) [
           | inl success ↦
-              let frame : responseFrame code h ≡ successFrame h = ap (λ (n : ℕ). responseFrame n h) (success .0) in
+              let frame : responseFrame asked code h ≡ successFrame h = rw (success .0, success .1) refl in
               record {
                 formed = formed .0;
                 all-sessions =
                     ap (λ (f : Frame). length (f .entries)) frame ∙ length-without (entriesHanded h) ∙ count-is (h .lent) (h .sessions) (p .few);
-                within = there-within (h .lent) (entriesOf (h .sessions)) (success .1 .there);
-                room-for = room-for (success .1 .room-for);
+                within = there-within (h .lent) (entriesOf (h .sessions)) (success .2 .there);
+                room-for = room-for (success .2 .room-for);
               }
           | inr error ↦ record {
             formed = formed .0;
-            all-sessions = rw (error .0) (sym (error .1));
+            all-sessions = ap (λ (f : Frame). length (f .entries)) (frame-errs asked code h (error .0)) ∙ sym (error .1);
             within = rw (entries-none (h .sessions) (error .1)) tt;
-            room-for = room-for (let ten : length t ≡ 10 = ap length (error .2) ∙ length-error code in let most = error .3 in omega arith);
+            room-for = room-for (let ten : length t ≡ 10 = ap length (error .2) ∙ length-error asked code in let most = error .3 in omega arith);
           }
         ]
 
-    pub taken-response : Taken (ResponseParts rows cc) layoutResponse (responseFrame code h) h room
-        → writeResponse rows cc code h room ≡ gives (layoutResponse (responseFrame code h))
-    taken-response = by (eqb code 0) refl
-      where
-        by : (b : Bool) → eqb code 0 ≡ b
-            → Taken (ResponseParts rows cc) layoutResponse (cond b (successFrame h) (errorFrame code)) h room
-            → writeResponse rows cc code h room ≡ gives (layoutResponse (cond b (successFrame h) (errorFrame code)))
-        by true e t = elim (t .formed .either-kind) [
-          | inl success ↦
-              let w = success .well-formed in
-              let small = success .size-fits in
-              let there = within-there (h .lent) (entriesOf (h .sessions)) (t .within) in
-              sym (success-is rows cc code h room (rw (t .all-sessions) at (w .three-entries)) (sym (t .formed .has-row)) (eqb-true code 0 e))
-              ∙ passed-success rows cc code h room (t .formed .row .responses) {n = length (layoutResponse (successFrame h))} (record {
-                handle-count = w .handle-count;
-                there = there;
-                total-is = length-success h there;
-                small = omega arith;
-                room-for = t .room-for;
-              })
-          | inr error ↦ absurd (false≢true (sym (error .no-success)))
-        ]
-        by false e t = elim (t .formed .either-kind) [
-          | inl success ↦ absurd (eqb-false code 0 e (success .success))
-          | inr error ↦
-              let none : h .sessions .count ≡ 0 = sym (t .all-sessions) in
-              let ten = length-error code in
-              let enough = t .room-for in
-              sym (error-is rows cc code h room (omega arith) (sym (t .formed .has-row)) (eqb-false code 0 e))
-              ∙ sym (passes (given (readCode code)) _ _ (error .code-reads))
-              ∙ passed-error code (h .sessions .count) room none (omega arith)
-        ]
+  -- a bare header is written where it can be
+  error-written : (asked : Bool) (cc code : ℕ) (h : Handed) (room : ℕ)
+      → Taken (ResponseParts book cc) layoutResponse (errorFrame asked code) h room → Errs asked code
+      → writeResponse book asked cc code h room ≡ gives (layoutResponse (errorFrame asked code))
+  error-written asked cc code h room t errs =
+      let none : h .sessions .count ≡ 0 = sym (t .all-sessions) in
+      let ten = length-error asked code in
+      let enough = t .room-for in
+      error-is book asked cc code h room (omega arith) (sym (t .formed .has-row)) errs none (omega arith)
+
+  error-taken : (asked : Bool) (cc code : ℕ) (h : Handed) (room : ℕ) → (eqb code 0 ≡ true → asked ≡ true)
+      → Taken (ResponseParts book cc) layoutResponse (errorFrame asked code) h room
+      → writeResponse book asked cc code h room ≡ gives (layoutResponse (errorFrame asked code))
+  error-taken asked cc code h room failed t = elim (t .formed .either-kind) [
+    | inl success ↦ absurd (no-success asked (failed (eq-eqb code 0 (success .success))) (success .well-formed .tag-of-two))
+    | inr error ↦ error-written asked cc code h room t (parted-errs book asked code (error .either-error))
+  ]
+    where
+      no-success : (b : Bool) → b ≡ true → (errorTag b ≡ plain) ⊎ (errorTag b ≡ sessions) → ⊥
+      no-success true e (inl is) = omega arith
+      no-success true e (inr is) = omega arith
+      no-success false e either = false≢true e
+
+  pub taken-response : (asked : Bool) (cc code : ℕ) (h : Handed) (room : ℕ)
+      → Taken (ResponseParts book cc) layoutResponse (responseFrame asked code h) h room
+      → writeResponse book asked cc code h room ≡ gives (layoutResponse (responseFrame asked code h))
+  taken-response true cc code h room t = error-taken true cc code h room (λ zero. refl) t
+  taken-response false cc code h room t = by (eqb code 0) refl t
+    where
+      by : (b : Bool) → eqb code 0 ≡ b
+          → Taken (ResponseParts book cc) layoutResponse (cond b (successFrame h) (errorFrame false code)) h room
+          → writeResponse book false cc code h room ≡ gives (layoutResponse (cond b (successFrame h) (errorFrame false code)))
+      by true e t = elim (t .formed .either-kind) [
+        | inl success ↦
+            let w = success .well-formed in
+            let small = success .size-fits in
+            let there = within-there (h .lent) (entriesOf (h .sessions)) (t .within) in
+            sym (success-is book false cc code h room (rw (t .all-sessions) at (w .three-entries)) (sym (t .formed .has-row)) refl (eqb-true code 0 e))
+            ∙ passed-success book false cc code h room (t .formed .row .responses) {n = length (layoutResponse (successFrame h))} (record {
+              handle-count = w .handle-count;
+              there = there;
+              total-is = length-success h there;
+              small = omega arith;
+              room-for = t .room-for;
+            })
+        | inr error ↦ absurd (false≢true (sym (erring book (successFrame h) (error .either-error) .no-success)))
+      ]
+      by false e t = error-taken false cc code h room (λ zero. absurd (false≢true (sym e ∙ zero))) t

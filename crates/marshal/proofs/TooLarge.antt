@@ -1,7 +1,7 @@
 -- A writer refuses with 7 exactly where all that comes before passes and the total of document 01 is above 4,294,967,295.
 -- Assumes nothing.
 use mathlib.Core.Path.{_≡_, refl, sym, _∙_, ap}
-use mathlib.Core.Bool.{Bool, Bool·beq, true, false, cond}
+use mathlib.Core.Bool.{Bool, Bool·beq, true, false, _&&_, _||_, cond}
 use mathlib.Core.List.{List, [], _∷_}
 use mathlib.Core.Logic.{_⊎_, inl, inr, _↔_}
 use Prim.Native.Nat.{ℕ, _+_, _*_, _≤_, _<_}
@@ -16,8 +16,9 @@ use Rattle.table.specs.Table.{rowFor}
 use Rattle.table.specs.declared.row.Row.{Row}
 use Rattle.frame.specs.declared.session.Field.{Field}
 use Rattle.frame.specs.declared.session.Session.{Session}
-use Rattle.frame.specs.Header.{sessions, isOfTwo}
+use Rattle.frame.specs.Header.{sessions, badTag, isOfTwo}
 use Rattle.frame.specs.Parts.{entriesOf}
+use Rattle.frame.specs.Rules.{Rulebook}
 use Rattle.marshal.specs.Handed.{Handed, tagFor}
 use Rattle.marshal.specs.Write.{
   capped,
@@ -29,7 +30,9 @@ use Rattle.marshal.specs.Write.{
   judged,
   writeCommand,
   writeSuccess,
+  writeBare,
   writeError,
+  writeBadTag,
   writeResponse,
 }
 use Rattle.marshal.proofs.Writers.{tag-same, row-found, success-is}
@@ -120,22 +123,22 @@ module _ (width tag handles : ℕ) (h : Handed) (room n : ℕ) where
 
 -- ---- commands
 
-pub record CommandTooLarge (rows : List Row) (tag code : ℕ) (h : Handed) (n : ℕ) : Type 0 where
+pub record CommandTooLarge (book : Rulebook) (tag code : ℕ) (h : Handed) (n : ℕ) : Type 0 where
   pub tag-is : tag ≡ tagFor (h .sessions .count)
   pub few : h .sessions .count ≤ 3
   pub row : Row
-  pub has-row : rowFor rows code ≡ gives row
+  pub has-row : rowFor (book .rows) code ≡ gives row
   pub too-large : TooLarge 4 tag (row .handles) h n
 
-module _ (rows : List Row) (tag code : ℕ) (h : Handed) (room n : ℕ) where
-  command-is-too-large : writeCommand rows tag code h room ≡ refuses (7 ∷ 0 ∷ n ∷ []) → CommandTooLarge rows tag code h n
+module _ (book : Rulebook) (tag code : ℕ) (h : Handed) (room n : ℕ) where
+  command-is-too-large : writeCommand book tag code h room ≡ refuses (7 ∷ 0 ∷ n ∷ []) → CommandTooLarge book tag code h n
   unfolding writeCommand
   command-is-too-large e =
       let two = passed (isOfTwo tag) _ _ (λ q. omega arith) e in
       let agree = passed (Bool·beq (eqb tag sessions) (ltb 0 (h .sessions .count))) _ _ (λ q. omega arith) (two .1) in
       let few = passed (leb (h .sessions .count) 3) _ _ (λ q. omega arith) (agree .1) in
-      elim (then-refuses (rowFor rows code) _ (few .1)) [
-        | inr none ↦ let four = row-number rows code none in absurd (omega arith)
+      elim (then-refuses (rowFor (book .rows) code) _ (few .1)) [
+        | inr none ↦ let four = row-number (book .rows) code none in absurd (omega arith)
         | inl found ↦ elim (then-refuses (judged 4 tag (found .0 .handles) h room) _ (found .2)) [
           | inl p ↦ absurd (gives≢refuses (p .2))
           | inr large ↦ record {
@@ -148,62 +151,75 @@ module _ (rows : List Row) (tag code : ℕ) (h : Handed) (room n : ℕ) where
         ]
       ]
 
-  pub command-too-large : (writeCommand rows tag code h room ≡ refuses (7 ∷ 0 ∷ n ∷ [])) ↔ CommandTooLarge rows tag code h n
+  pub command-too-large : (writeCommand book tag code h room ≡ refuses (7 ∷ 0 ∷ n ∷ [])) ↔ CommandTooLarge book tag code h n
   command-too-large = (
     command-is-too-large,
     (λ t.
-        sym (row-found rows tag code h room (t .tag-is) (t .few) (sym (t .has-row)))
+        sym (row-found book tag code h room (t .tag-is) (t .few) (sym (t .has-row)))
         ∙ sym (stops (judged 4 tag (t .row .handles) h room) _ (sym (too-large-judged 4 tag (t .row .handles) h room n (t .too-large))))),
   )
 
 -- ---- responses: only success has a total
 
-pub record ResponseTooLarge (rows : List Row) (cc code : ℕ) (h : Handed) (n : ℕ) : Type 0 where
+pub record ResponseTooLarge (book : Rulebook) (asked : Bool) (cc code : ℕ) (h : Handed) (n : ℕ) : Type 0 where
   pub few : h .sessions .count ≤ 3
   pub row : Row
-  pub has-row : rowFor rows cc ≡ gives row
+  pub has-row : rowFor (book .rows) cc ≡ gives row
+  pub not-asked : asked ≡ false
   pub success : code ≡ 0
   pub too-large : TooLarge 0 (tagFor (h .sessions .count)) (row .responses) h n
 
-module _ (rows : List Row) (cc code : ℕ) (h : Handed) (room n : ℕ) where
-  error-no-total : writeError code (h .sessions .count) room ≡ refuses (7 ∷ 0 ∷ n ∷ []) → ⊥
-  unfolding writeError
-  error-no-total e =
-      let none = passed (eqb (h .sessions .count) 0) _ _ (λ q. omega arith) e in
-      elim (then-refuses (fitted 10 room) _ (none .1)) [
-        | inl p ↦ gives≢refuses (p .2)
-        | inr short ↦ gives≢refuses (passed (leb 10 room) _ (gives 10) (λ q. omega arith) short .1)
-      ]
+module _ (code count room n : ℕ) where
+  bare-no-total : (asked : Bool) → writeBare asked code room ≡ refuses (7 ∷ 0 ∷ n ∷ []) → ⊥
+  bare-no-total asked e = elim (then-refuses (fitted 10 room) _ e) [
+    | inl p ↦ gives≢refuses (p .2)
+    | inr short ↦ gives≢refuses (passed (leb 10 room) _ (gives 10) (λ q. omega arith) short .1)
+  ]
 
-  response-is-too-large : writeResponse rows cc code h room ≡ refuses (7 ∷ 0 ∷ n ∷ []) → ResponseTooLarge rows cc code h n
+  error-no-total : writeError code count room ≡ refuses (7 ∷ 0 ∷ n ∷ []) → ⊥
+  unfolding writeError
+  error-no-total e = bare-no-total false (passed (eqb count 0) _ _ (λ q. omega arith) e .1)
+
+  bad-tag-no-total : writeBadTag code count room ≡ refuses (7 ∷ 0 ∷ n ∷ []) → ⊥
+  unfolding writeBadTag
+  bad-tag-no-total e =
+      let alone = passed (eqb code 0 || eqb count 0) _ _ (λ q. omega arith) e in
+      bare-no-total true (passed (eqb code badTag) _ _ (λ q. omega arith) (alone .1) .1)
+
+module _ (book : Rulebook) (asked : Bool) (cc code : ℕ) (h : Handed) (room n : ℕ) where
+  response-is-too-large : writeResponse book asked cc code h room ≡ refuses (7 ∷ 0 ∷ n ∷ []) → ResponseTooLarge book asked cc code h n
   unfolding writeResponse writeSuccess
   response-is-too-large e =
       let few = passed (leb (h .sessions .count) 3) _ _ (λ q. omega arith) e in
-      elim (then-refuses (rowFor rows cc) _ (few .1)) [
-        | inr none ↦ let four = row-number rows cc none in absurd (omega arith)
+      elim (then-refuses (rowFor (book .rows) cc) _ (few .1)) [
+        | inr none ↦ let four = row-number (book .rows) cc none in absurd (omega arith)
         | inl found ↦
-            let reads = passed (given (readCode code)) _ _ (λ q. omega arith) (found .2) in
-            elim (cond-refuses (eqb code 0) (writeSuccess (found .0 .responses) h room) (writeError code (h .sessions .count) room) (reads .1)) [
-              | inr error ↦ absurd (error-no-total (error .1))
-              | inl success ↦ elim (then-refuses (judged 0 (tagFor (h .sessions .count)) (found .0 .responses) h room) _ (success .1)) [
-                | inl p ↦ absurd (gives≢refuses (p .2))
-                | inr large ↦ record {
-                  few = leb-true (h .sessions .count) 3 (few .0);
-                  row = found .0;
-                  has-row = found .1;
-                  success = eqb-true code 0 (success .0);
-                  too-large = judged-too-large 0 (tagFor (h .sessions .count)) (found .0 .responses) h room n large;
-                }
+            let reads = passed (given (readCode code) || (asked && eqb code badTag)) _ _ (λ q. omega arith) (found .2) in
+            elim (cond-refuses asked (writeBadTag code (h .sessions .count) room) _ (reads .1)) [
+              | inl is ↦ absurd (bad-tag-no-total code (h .sessions .count) room n (is .1))
+              | inr not ↦ elim (cond-refuses (eqb code 0) (writeSuccess (found .0 .responses) h room) (writeError code (h .sessions .count) room) (not .1)) [
+                | inr error ↦ absurd (error-no-total code (h .sessions .count) room n (error .1))
+                | inl success ↦ elim (then-refuses (judged 0 (tagFor (h .sessions .count)) (found .0 .responses) h room) _ (success .1)) [
+                  | inl p ↦ absurd (gives≢refuses (p .2))
+                  | inr large ↦ record {
+                    few = leb-true (h .sessions .count) 3 (few .0);
+                    row = found .0;
+                    has-row = found .1;
+                    not-asked = not .0;
+                    success = eqb-true code 0 (success .0);
+                    too-large = judged-too-large 0 (tagFor (h .sessions .count)) (found .0 .responses) h room n large;
+                  }
+                ]
               ]
             ]
       ]
 
-  pub response-too-large : (writeResponse rows cc code h room ≡ refuses (7 ∷ 0 ∷ n ∷ [])) ↔ ResponseTooLarge rows cc code h n
+  pub response-too-large : (writeResponse book asked cc code h room ≡ refuses (7 ∷ 0 ∷ n ∷ [])) ↔ ResponseTooLarge book asked cc code h n
   unfolding writeSuccess
   response-too-large = (
     response-is-too-large,
     (λ t.
         let tag = tagFor (h .sessions .count) in
-        sym (success-is rows cc code h room (t .few) (sym (t .has-row)) (t .success))
+        sym (success-is book asked cc code h room (t .few) (sym (t .has-row)) (t .not-asked) (t .success))
         ∙ sym (stops (judged 0 tag (t .row .responses) h room) _ (sym (too-large-judged 0 tag (t .row .responses) h room n (t .too-large))))),
   )

@@ -1,23 +1,26 @@
--- The starred rows of document 01's worked frames, together: what the definitions answer to each at the port's table, in the numbers
+-- The starred rows of document 01's worked frames, together: what the definitions answer to each in the Rust reading, in the numbers
 -- that callers see. The frames and the calls that read are frame's; here the writers come to them. And the writers' order of checks.
 -- Assumes nothing.
 use mathlib.Core.Path.{_≡_, refl}
 use mathlib.Core.List.{List, [], _∷_}
+use mathlib.Core.Bool.{true, false}
 use Prim.Native.Nat.{ℕ}
+use lib.Dec.{eqb}
 use Rattle.base.specs.Bytes.{bytes, number}
 use Rattle.base.specs.Said.{Said, gives, refuses, then}
 use Rattle.rc.specs.Code.{readIndex, readFmt1, readFmt0, readCode}
 use Rattle.rc.specs.Known.{isKnown, knownCodes}
-use Rattle.table.specs.Dispatch.{dispatch, commandCodes}
+use Rattle.table.specs.Dispatch.{dispatch}
 use Rattle.table.specs.Tags.{tags}
 use Rattle.frame.specs.declared.session.Session.{Session}
 use Rattle.frame.specs.Answer.{commandByValue, responseByValue}
 use Rattle.frame.specs.Areas.{handleArea, sizedArea}
 use Rattle.frame.specs.Command.{commandHandles, commandAreas, judgeCommand, castCommand, readCommand}
-use Rattle.frame.specs.Header.{tagOf, sizeOf, codeOf, readCc, readRc, framePrefix, frameWhole, readFrameTag}
+use Rattle.frame.specs.Header.{tagOf, sizeOf, codeOf, rspCommand, readCc, readRc, framePrefix, frameWhole, readCommandTag, readResponseTag}
 use Rattle.frame.specs.Layout.{layoutCommand, layoutResponse}
 use Rattle.frame.specs.Response.{judgeResponse, castResponse, errorAreas, successAreas, responseAreas, readResponse}
 use Rattle.frame.specs.Walk.{readTpm2b, readSigned, readEntry, walk, byValue}
+use Rattle.frame.proofs.Readings.{badTagBytes}
 use Rattle.frame.proofs.Worked as frame
 use Rattle.frame.proofs.Worked.{
   Asked,
@@ -27,6 +30,8 @@ use Rattle.frame.proofs.Worked.{
   validate-response,
   parts-of-response,
   read-code,
+  rust,
+  standard,
   A,
   B,
   C,
@@ -35,7 +40,7 @@ use Rattle.frame.proofs.Worked.{
   cutEntry,
 }
 use Rattle.marshal.specs.Handed.{Handed, handed}
-use Rattle.marshal.specs.Write.{sessionsThere, judged, writeCommand, writeSuccess, writeError, writeResponse}
+use Rattle.marshal.specs.Write.{sessionsThere, judged, writeCommand, writeSuccess, writeError, writeBadTag, writeResponse}
 use Rattle.marshal.proofs.CommandWriting.{commandHanded}
 use Rattle.marshal.proofs.ResponseWriting.{responseHanded}
 
@@ -47,19 +52,25 @@ pub data Call : Type 0 where
   reads : Asked → Call
   again-command : List ℕ → ℕ → Call
   again-response : ℕ → List ℕ → ℕ → Call
-  write-command write-response : ℕ → ℕ → Handed → ℕ → Call
+  write-command write-response write-bad-tag : ℕ → ℕ → Handed → ℕ → Call
+  again-bad-tag : ℕ → List ℕ → ℕ → Call
 
 -- what the call answers; a writer by the bytes that it writes
 abbrev pub answer : Call → Said (List ℕ)
 answer (reads asked) = frame.answer asked
 answer (again-command s room) =
-    then (commandByValue s (readCommand dispatch commandCodes s)) λ c.
-    writeCommand dispatch (c .tag .0) (c .cc .0) (commandHanded s c) room
+    then (commandByValue s (readCommand rust s)) λ c.
+    writeCommand rust (c .tag .0) (c .cc .0) (commandHanded s c) room
 answer (again-response cc s room) =
-    then (responseByValue s (readResponse dispatch cc s)) λ r.
-    writeResponse dispatch cc (r .rc .0) (responseHanded s r) room
-answer (write-command tag code h room) = writeCommand dispatch tag code h room
-answer (write-response cc code h room) = writeResponse dispatch cc code h room
+    then (responseByValue s (readResponse rust cc s)) λ r.
+    writeResponse rust false cc (r .rc .0) (responseHanded s r) room
+answer (write-command tag code h room) = writeCommand rust tag code h room
+answer (write-response cc code h room) = writeResponse rust false cc code h room
+-- in the standard mode, the tag of the answer to a bad tag asked for where it was read, or in any case
+answer (again-bad-tag cc s room) =
+    then (responseByValue s (readResponse standard cc s)) λ r.
+    writeResponse standard (eqb (r .tag .0) rspCommand) cc (r .rc .0) (responseHanded s r) room
+answer (write-bad-tag cc code h room) = writeResponse standard true cc code h room
 
 -- ---- the table
 
@@ -110,7 +121,7 @@ results [] = []
 results (r ∷ rs) = r .result ∷ results rs
 
 pub starred : answers rows ≡ results rows
-unfolding bytes number dispatch tags tagOf sizeOf codeOf readCc readRc framePrefix frameWhole readFrameTag handleArea sizedArea commandHandles commandAreas judgeCommand castCommand readCommand judgeResponse castResponse errorAreas successAreas responseAreas readResponse readTpm2b readSigned readEntry walk readCode readFmt1 readFmt0 readIndex isKnown knownCodes layoutCommand layoutResponse sessionsThere judged writeCommand writeSuccess writeError writeResponse
+unfolding bytes number dispatch tags tagOf sizeOf codeOf readCc readRc framePrefix frameWhole readCommandTag readResponseTag handleArea sizedArea commandHandles commandAreas judgeCommand castCommand readCommand judgeResponse castResponse errorAreas successAreas responseAreas readResponse readTpm2b readSigned readEntry walk readCode readFmt1 readFmt0 readIndex isKnown knownCodes layoutCommand layoutResponse sessionsThere judged writeCommand writeSuccess writeError writeResponse
 starred = refl
 
 -- ---- the order of checks: in each row all that is judged later and can be refused beside it would be; 7 has laws of its own (TooLarge)
@@ -164,8 +175,18 @@ refusals =
     ∷ row (write-response 0x131 0 (given (0 ∷ handle) 3 past past past) 0) (refuses (2 ∷ 4 ∷ 1 ∷ []))
     ∷ row (write-response 0x131 0 (given handle 3 half past past) 0) (refuses (1 ∷ 4 ∷ 3 ∷ 1 ∷ []))
     ∷ row (write-response 0x131 0 (given handle 2 whole whole half) 37) (refuses (9 ∷ 0 ∷ 38 ∷ 37 ∷ []))
+    ∷ row (write-bad-tag 0 0x31 (given [] 4 past past past) 0) (refuses (6 ∷ 0 ∷ 3 ∷ 4 ∷ []))
+    ∷ row (write-bad-tag 0 0x31 (given [] 3 past past past) 0) (refuses (4 ∷ 0 ∷ 0 ∷ []))
+    ∷ row (write-bad-tag 0x131 0x31 (given [] 3 past past past) 0) (refuses (5 ∷ 0 ∷ 0x31 ∷ []))
+    ∷ row (write-bad-tag 0x131 0x1e (given [] 3 past past past) 0) (refuses (3 ∷ 0 ∷ 0x8002 ∷ []))
+    ∷ row (write-bad-tag 0x131 0x101 (given [] 1 past past past) 0) (refuses (3 ∷ 0 ∷ 0x8002 ∷ []))
+    ∷ row (write-bad-tag 0x131 0 (given [] 3 past past past) 0) (refuses (5 ∷ 0 ∷ 0 ∷ []))
+    ∷ row (write-bad-tag 0x131 0x101 (given [] 0 past past past) 0) (refuses (5 ∷ 0 ∷ 0x101 ∷ []))
+    ∷ row (write-bad-tag 0x131 0x1e (given [] 0 past past past) 9) (refuses (9 ∷ 0 ∷ 10 ∷ 9 ∷ []))
+    ∷ row (write-bad-tag 0x131 0x1e (given [] 0 past past past) 10) (gives badTagBytes)
+    ∷ row (again-bad-tag 0x15e badTagBytes 10) (gives badTagBytes)
     ∷ []
 
 pub order : answers refusals ≡ results refusals
-unfolding dispatch readCode readFmt1 readFmt0 readIndex isKnown knownCodes sessionsThere judged writeCommand writeSuccess writeError writeResponse
+unfolding bytes number dispatch tagOf sizeOf codeOf readRc framePrefix frameWhole readResponseTag judgeResponse castResponse errorAreas responseAreas readResponse walk readCode readFmt1 readFmt0 readIndex isKnown knownCodes layoutResponse sessionsThere judged writeCommand writeSuccess writeError writeBadTag writeResponse
 order = refl

@@ -1,11 +1,11 @@
 -- What is handed to a writer beside the tag and the codes (document 01, "What must change shape"), and the frame that it asks for.
 -- Assumes nothing: these are definitions.
 use Prim.Native.Nat.{ℕ}
-use mathlib.Core.Bool.{cond}
+use mathlib.Core.Bool.{Bool, cond}
 use mathlib.Core.List.{List, [], _∷_}
 use lib.Dec.{eqb}
 use Rattle.frame.specs.declared.session.Entries.{Entries}
-use Rattle.frame.specs.Header.{plain, sessions}
+use Rattle.frame.specs.Header.{plain, sessions, rspCommand}
 use Rattle.frame.specs.Layout.{Entry, Frame}
 use Rattle.frame.specs.Parts.{entriesIn, entriesOf}
 
@@ -48,6 +48,9 @@ successFrame h = record {
   parameters = h .parameters;
 }
 
--- any other code: a bare header
-abbrev pub errorFrame : ℕ → Frame
-errorFrame code = record { tag = plain; code = code; handles = []; entries = []; parameters = [] }
+-- any other code: a bare header, under the plain tag or, where that is asked for, under the tag of the answer to a bad tag
+abbrev pub errorTag : Bool → ℕ
+errorTag asked = cond asked rspCommand plain
+
+abbrev pub errorFrame : Bool → ℕ → Frame
+errorFrame asked code = record { tag = errorTag asked; code = code; handles = []; entries = []; parameters = [] }

@@ -1,3 +1,4 @@
 pub mod Handed
 pub mod Laid
+pub mod Mode
 pub mod Write

@@ -1,20 +1,20 @@
--- The writers (document 01, "Order of checks", from "Command writer" on), over any rows. Each gives the bytes of the frame.
+-- The writers (document 01, "Order of checks", from "Command writer" on; document 02, W5), over any rules. Each gives the bytes of the frame.
 -- Assumes nothing: these are definitions.
 use Prim.Native.Nat.{ℕ, _+_, _-_, _*_, _≤_}
 use mathlib.Core.Path.{_≡_}
-use mathlib.Core.Bool.{Bool·beq, cond}
+use mathlib.Core.Bool.{Bool, true, false, Bool·beq, _&&_, _||_, cond}
 use mathlib.Core.List.{List, [], _∷_, _++_}
 use lib.Dec.{eqb, leb, ltb}
 use lib.ListN.{length, drop}
 use Rattle.base.specs.Said.{Said, gives, needs, then, given, after}
 use Rattle.rc.specs.Code.{readCode}
 use Rattle.table.specs.Table.{rowFor}
-use Rattle.table.specs.declared.row.Row.{Row}
 use Rattle.frame.specs.declared.session.Field.{Field}
 use Rattle.frame.specs.declared.session.Session.{Session}
-use Rattle.frame.specs.Header.{sessions, isOfTwo}
+use Rattle.frame.specs.Header.{sessions, badTag, isOfTwo}
 use Rattle.frame.specs.Layout.{layoutCommand, layoutResponse}
 use Rattle.frame.specs.Parts.{entriesOf}
+use Rattle.frame.specs.Rules.{Rulebook}
 use Rattle.marshal.specs.Handed.{Handed, tagFor, commandFrame, successFrame, errorFrame}
 
 -- a number, or the largest of 64 bits where it is above that
@@ -69,30 +69,39 @@ writeSuccess responses h room =
     then (judged 0 (tagFor (h .sessions .count)) responses h room) λ total.
     gives (layoutResponse (successFrame h))
 
+-- a bare header
+abbrev pub writeBare : Bool → ℕ → ℕ → Said (List ℕ)
+writeBare asked code room = then (fitted 10 room) λ total. gives (layoutResponse (errorFrame asked code))
+
 -- any other code, with so many sessions; all else is ignored
 unfoldable pub writeError : ℕ → ℕ → ℕ → Said (List ℕ)
-writeError code count room =
-    needs (eqb count 0) (3 ∷ 0 ∷ sessions ∷ [])
-    (then (fitted 10 room) λ total.
-    gives (layoutResponse (errorFrame code)))
+writeError code count room = needs (eqb count 0) (3 ∷ 0 ∷ sessions ∷ []) (writeBare false code room)
 
-module _ (rows : List Row) where
+-- with the tag of the answer to a bad tag asked for: no other code is written under it
+unfoldable pub writeBadTag : ℕ → ℕ → ℕ → Said (List ℕ)
+writeBadTag code count room =
+    needs (eqb code 0 || eqb count 0) (3 ∷ 0 ∷ sessions ∷ [])
+    (needs (eqb code badTag) (5 ∷ 0 ∷ code ∷ [])
+    (writeBare true code room))
+
+module _ (book : Rulebook) where
   unfoldable pub writeCommand : ℕ → ℕ → Handed → ℕ → Said (List ℕ)
   writeCommand tag code h room =
       needs (isOfTwo tag) (3 ∷ 0 ∷ tag ∷ [])
       (needs (Bool·beq (eqb tag sessions) (ltb 0 (h .sessions .count))) (3 ∷ 0 ∷ tag ∷ [])
       (needs (leb (h .sessions .count) 3) (6 ∷ 0 ∷ 3 ∷ h .sessions .count ∷ [])
-      (then (rowFor rows code) λ row.
+      (then (rowFor (book .rows) code) λ row.
       then (judged 4 tag (row .handles) h room) λ total.
       gives (layoutCommand (commandFrame tag code h)))))
 
-  -- a response of some code to the command of the code cc
-  unfoldable pub writeResponse : ℕ → ℕ → Handed → ℕ → Said (List ℕ)
-  writeResponse cc code h room =
+  -- a response of some code to the command of the code cc, with the tag of the answer to a bad tag asked for or not
+  unfoldable pub writeResponse : Bool → ℕ → ℕ → Handed → ℕ → Said (List ℕ)
+  writeResponse asked cc code h room =
       needs (leb (h .sessions .count) 3) (6 ∷ 0 ∷ 3 ∷ h .sessions .count ∷ [])
-      (then (rowFor rows cc) λ row.
-      needs (given (readCode code)) (5 ∷ 0 ∷ code ∷ [])
-      (cond (eqb code 0) (writeSuccess (row .responses) h room) (writeError code (h .sessions .count) room)))
+      (then (rowFor (book .rows) cc) λ row.
+      needs (given (readCode code) || (asked && eqb code badTag)) (5 ∷ 0 ∷ code ∷ [])
+      (cond asked (writeBadTag code (h .sessions .count) room)
+      (cond (eqb code 0) (writeSuccess (row .responses) h room) (writeError code (h .sessions .count) room))))
 
 -- ---- what a writer answers, and what the lent room is later
 

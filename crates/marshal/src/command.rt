@@ -2,8 +2,8 @@
 ghost use mathlib.Core.Path.{_≡_};
 ghost use lib.ListN.{length};
 ghost use Rattle.base.specs.Answer.{saidCount};
-ghost use Rattle.table.specs.Dispatch.{dispatch};
 ghost use Rattle.frame.specs.Layout.{layoutCommand};
+ghost use Rattle.frame.specs.Rules.{bookOf};
 ghost use Rattle.marshal.specs.Handed.{commandFrame, handed};
 ghost use Rattle.base.specs.Field.{laid};
 ghost use Rattle.marshal.specs.Write.{Ready, counted, roomAfter, writeCommand};
@@ -18,6 +18,7 @@ use crate::total::too_many;
 use base::answer::Count;
 use base::code::TpmCc;
 use base::code::TpmSt;
+use frame::rules::Rules;
 use frame::session::Entries;
 use frame::session::MAX_SESSIONS;
 use table::dispatch::find;
@@ -25,6 +26,7 @@ use table::row::Found;
 
 // The total, or the first refusal.
 fn judge_command(
+    rules: Rules,
     tag: TpmSt,
     cc: TpmCc,
     handles: &[u8],
@@ -33,7 +35,7 @@ fn judge_command(
     parameters: &[u8],
     room: usize,
 ) -> Count
-    ensures { λ r. ⌜ saidCount r ≡ counted (writeCommand dispatch (tag .0) (cc .0) (handed (now (handles .entry)) sessions (now (lent .entry)) (now (parameters .entry))) room) ⌝ }
+    ensures { λ r. ⌜ saidCount r ≡ counted (writeCommand (bookOf rules) (tag .0) (cc .0) (handed (now (handles .entry)) sessions (now (lent .entry)) (now (parameters .entry))) room) ⌝ }
 {
     if tag.0 == tag_for(sessions.count) {
         if MAX_SESSIONS < sessions.count {
@@ -82,6 +84,7 @@ fn lay_command(
 
 // Writes a command to the start of the room, and answers how many bytes it has. Nothing is written before all is judged.
 pub fn write(
+    rules: Rules,
     tag: TpmSt,
     cc: TpmCc,
     handles: &[u8],
@@ -90,10 +93,19 @@ pub fn write(
     parameters: &[u8],
     room: &mut [u8],
 ) -> Count
-    ensures answer { λ r. ⌜ saidCount r ≡ counted (writeCommand dispatch (tag .0) (cc .0) (handed (now (handles .entry)) sessions (now (lent .entry)) (now (parameters .entry))) (length (now (room .entry)))) ⌝ }
-    ensures bytes { λ r. ⌜ now (room .exit) ≡ roomAfter (now (room .entry)) (writeCommand dispatch (tag .0) (cc .0) (handed (now (handles .entry)) sessions (now (lent .entry)) (now (parameters .entry))) (length (now (room .entry)))) ⌝ }
+    ensures answer { λ r. ⌜ saidCount r ≡ counted (writeCommand (bookOf rules) (tag .0) (cc .0) (handed (now (handles .entry)) sessions (now (lent .entry)) (now (parameters .entry))) (length (now (room .entry)))) ⌝ }
+    ensures bytes { λ r. ⌜ now (room .exit) ≡ roomAfter (now (room .entry)) (writeCommand (bookOf rules) (tag .0) (cc .0) (handed (now (handles .entry)) sessions (now (lent .entry)) (now (parameters .entry))) (length (now (room .entry)))) ⌝ }
 {
-    let judged = judge_command(tag, cc, handles, sessions, lent, parameters, room.len());
+    let judged = judge_command(
+        rules,
+        tag,
+        cc,
+        handles,
+        sessions,
+        lent,
+        parameters,
+        room.len(),
+    );
     let Count::Is(total) = judged else {
         return judged;
     };

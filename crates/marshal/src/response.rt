@@ -1,15 +1,20 @@
 // The writer of responses.
 ghost use mathlib.Core.Path.{_≡_};
+ghost use mathlib.Core.Bool.{_||_};
 ghost use mathlib.Core.List.{[], _∷_};
+ghost use lib.Dec.{eqb};
 ghost use lib.ListN.{length};
 ghost use Rattle.base.specs.Answer.{saidCount};
 ghost use Rattle.base.specs.Said.{given, needs};
 ghost use Rattle.rc.specs.Code.{readCode};
-ghost use Rattle.table.specs.Dispatch.{dispatch};
+ghost use Rattle.frame.specs.Header.{badTag};
 ghost use Rattle.frame.specs.Layout.{layoutResponse};
-ghost use Rattle.marshal.specs.Handed.{handed, successFrame, tagFor};
+ghost use Rattle.marshal.specs.Handed.{errorTag, handed, successFrame, tagFor};
+ghost use Rattle.marshal.specs.Mode.{asked, bookFor};
 ghost use Rattle.base.specs.Field.{laid};
-ghost use Rattle.marshal.specs.Write.{Ready, counted, roomAfter, writeError, writeResponse};
+ghost use Rattle.marshal.specs.Write.{Ready, counted, roomAfter, writeBadTag, writeError, writeResponse};
+use crate::mode::ResponseRules;
+use crate::mode::asks_bad_tag;
 use crate::put::put;
 use crate::put::put_entries;
 use crate::put::put_header;
@@ -23,8 +28,10 @@ use base::answer::Count;
 use base::code::TpmCc;
 use base::code::TpmRc;
 use base::code::TpmSt;
+use frame::header::BAD_TAG;
 use frame::header::HEADER_SIZE;
 use frame::header::PLAIN;
+use frame::header::RSP_COMMAND;
 use frame::header::SESSIONS;
 use frame::session::Entries;
 use frame::session::MAX_SESSIONS;
@@ -48,8 +55,44 @@ fn judge_error(rc: TpmRc, count: usize, room: usize) -> Count
     }
 }
 
+// The same with the tag of the answer to a bad tag asked for, which no other code gets.
+fn judge_bad_tag(rc: TpmRc, count: usize, room: usize) -> Count
+    ensures { λ r. ⌜ saidCount r ≡ needs (given (readCode (rc .0)) || eqb (rc .0) badTag) (5 ∷ 0 ∷ rc .0 ∷ []) (counted (writeBadTag (rc .0) count room)) ⌝ }
+{
+    if rc.0 == BAD_TAG {
+        if count == 0 {
+            return fits(HEADER_SIZE, room);
+        }
+        return Count::Refused(TpmSt(SESSIONS).refused(0));
+    }
+    if rc.0 == 0 {
+        return Count::Refused(rc.refused(0));
+    }
+    match read(rc) {
+        Answer::Refused(_) => Count::Refused(rc.refused(0)),
+        Answer::Code(_) => {
+            if count == 0 {
+                return Count::Refused(rc.refused(0));
+            }
+            Count::Refused(TpmSt(SESSIONS).refused(0))
+        }
+    }
+}
+
+// The tag of an error response.
+fn error_tag(rules: ResponseRules) -> u16
+    ensures { λ r. ⌜ r ≡ errorTag (asked rules) ⌝ }
+{
+    if asks_bad_tag(rules) {
+        RSP_COMMAND
+    } else {
+        PLAIN
+    }
+}
+
 // The total, or the first refusal.
 fn judge_response(
+    rules: ResponseRules,
     rc: TpmRc,
     cc: TpmCc,
     handles: &[u8],
@@ -58,7 +101,7 @@ fn judge_response(
     parameters: &[u8],
     room: usize,
 ) -> Count
-    ensures { λ r. ⌜ saidCount r ≡ counted (writeResponse dispatch (cc .0) (rc .0) (handed (now (handles .entry)) sessions (now (lent .entry)) (now (parameters .entry))) room) ⌝ }
+    ensures { λ r. ⌜ saidCount r ≡ counted (writeResponse (bookFor rules) (asked rules) (cc .0) (rc .0) (handed (now (handles .entry)) sessions (now (lent .entry)) (now (parameters .entry))) room) ⌝ }
 {
     if MAX_SESSIONS < sessions.count {
         return Count::Refused(too_many(sessions.count));
@@ -66,6 +109,9 @@ fn judge_response(
     match find(cc) {
         Found::Refused(e) => Count::Refused(e),
         Found::Is(row) => {
+            if asks_bad_tag(rules) {
+                return judge_bad_tag(rc, sessions.count, room);
+            }
             if rc.0 == 0 {
                 return judge(
                     tag_for(sessions.count),
@@ -107,6 +153,7 @@ fn lay_success(
 // Writes a response to the command of a code to the start of the room, and answers how many bytes it has. Nothing is written
 // before all is judged.
 pub fn write(
+    rules: ResponseRules,
     rc: TpmRc,
     cc: TpmCc,
     handles: &[u8],
@@ -115,10 +162,19 @@ pub fn write(
     parameters: &[u8],
     room: &mut [u8],
 ) -> Count
-    ensures answer { λ r. ⌜ saidCount r ≡ counted (writeResponse dispatch (cc .0) (rc .0) (handed (now (handles .entry)) sessions (now (lent .entry)) (now (parameters .entry))) (length (now (room .entry)))) ⌝ }
-    ensures bytes { λ r. ⌜ now (room .exit) ≡ roomAfter (now (room .entry)) (writeResponse dispatch (cc .0) (rc .0) (handed (now (handles .entry)) sessions (now (lent .entry)) (now (parameters .entry))) (length (now (room .entry)))) ⌝ }
+    ensures answer { λ r. ⌜ saidCount r ≡ counted (writeResponse (bookFor rules) (asked rules) (cc .0) (rc .0) (handed (now (handles .entry)) sessions (now (lent .entry)) (now (parameters .entry))) (length (now (room .entry)))) ⌝ }
+    ensures bytes { λ r. ⌜ now (room .exit) ≡ roomAfter (now (room .entry)) (writeResponse (bookFor rules) (asked rules) (cc .0) (rc .0) (handed (now (handles .entry)) sessions (now (lent .entry)) (now (parameters .entry))) (length (now (room .entry)))) ⌝ }
 {
-    let judged = judge_response(rc, cc, handles, sessions, lent, parameters, room.len());
+    let judged = judge_response(
+        rules,
+        rc,
+        cc,
+        handles,
+        sessions,
+        lent,
+        parameters,
+        room.len(),
+    );
     let Count::Is(total) = judged else {
         return judged;
     };
@@ -126,6 +182,6 @@ pub fn write(
         lay_success(handles, sessions, lent, parameters, total, room);
         return judged;
     }
-    put_header(PLAIN, HEADER_SIZE as u32, rc.0, room);
+    put_header(error_tag(rules), HEADER_SIZE as u32, rc.0, room);
     judged
 }

@@ -2,7 +2,7 @@
 ghost use mathlib.Core.Path.{_≡_};
 ghost use lib.ListN.{length};
 ghost use Rattle.base.specs.Answer.{saidCount};
-ghost use Rattle.table.specs.Dispatch.{dispatch};
+ghost use Rattle.frame.specs.Rules.{bookOf};
 ghost use Rattle.frame.specs.Walk.{byValue};
 ghost use Rattle.marshal.specs.Handed.{handed};
 ghost use Rattle.marshal.specs.Write.{counted, roomAfter, writeCommand};
@@ -10,11 +10,13 @@ use crate::records::first_three;
 use base::answer::Count;
 use base::code::TpmCc;
 use base::code::TpmSt;
+use frame::rules::Rules;
 use frame::session::Session;
 
 // Writes a command to the start of the room, and answers how many bytes it has. More than three records are refused by their
 // number, before any of them is looked at.
 pub fn write(
+    rules: Rules,
     tag: TpmSt,
     cc: TpmCc,
     handles: &[u8],
@@ -23,10 +25,11 @@ pub fn write(
     parameters: &[u8],
     room: &mut [u8],
 ) -> Count
-    ensures answer { λ r. ⌜ saidCount r ≡ counted (writeCommand dispatch (tag .0) (cc .0) (handed (now (handles .entry)) (byValue (now (sessions .entry))) (now (lent .entry)) (now (parameters .entry))) (length (now (room .entry)))) ⌝ }
-    ensures bytes { λ r. ⌜ now (room .exit) ≡ roomAfter (now (room .entry)) (writeCommand dispatch (tag .0) (cc .0) (handed (now (handles .entry)) (byValue (now (sessions .entry))) (now (lent .entry)) (now (parameters .entry))) (length (now (room .entry)))) ⌝ }
+    ensures answer { λ r. ⌜ saidCount r ≡ counted (writeCommand (bookOf rules) (tag .0) (cc .0) (handed (now (handles .entry)) (byValue (now (sessions .entry))) (now (lent .entry)) (now (parameters .entry))) (length (now (room .entry)))) ⌝ }
+    ensures bytes { λ r. ⌜ now (room .exit) ≡ roomAfter (now (room .entry)) (writeCommand (bookOf rules) (tag .0) (cc .0) (handed (now (handles .entry)) (byValue (now (sessions .entry))) (now (lent .entry)) (now (parameters .entry))) (length (now (room .entry)))) ⌝ }
 {
     marshal::command::write(
+        rules,
         tag,
         cc,
         handles,

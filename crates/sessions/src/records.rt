@@ -3,7 +3,6 @@ ghost use mathlib.Core.Path.{_≡_};
 ghost use lib.ListN.{getD};
 ghost use Rattle.frame.specs.Walk.{byValue, none};
 use frame::session::Entries;
-use frame::session::Field;
 use frame::session::Session;
 
 // What stands for a record that is not there: zeros.
@@ -14,31 +13,15 @@ fn absent() -> Session
     empty.first
 }
 
-fn record_at(s: &[Session], place: usize) -> Session
-    ensures { λ r. ⌜ r ≡ getD (now (s .entry)) place none ⌝ }
+// The record at a place, or another where there is none. Both are copied whole: a slot that gets one record whole and another by its
+// fields, as zeros are laid, is copied by LLVM piece by piece, padding and all.
+fn record_or(other: Session, s: &[Session], place: usize) -> Session
+    ensures { λ r. ⌜ r ≡ getD (now (s .entry)) place other ⌝ }
 {
     if place < s.len() {
         return s[place];
     }
-    absent()
-}
-
-// The same record by its fields: a copy of the whole record, in the machine, also moves the padding between them, piece by piece.
-fn rebuilt(given: Session) -> Session
-    ensures { λ r. ⌜ r ≡ given ⌝ }
-{
-    Session {
-        handle: given.handle,
-        nonce: Field {
-            at: given.nonce.at,
-            size: given.nonce.size,
-        },
-        attributes: given.attributes,
-        hmac: Field {
-            at: given.hmac.at,
-            size: given.hmac.size,
-        },
-    }
+    other
 }
 
 fn gathered(count: usize, first: Session, second: Session, third: Session) -> Entries
@@ -46,9 +29,9 @@ fn gathered(count: usize, first: Session, second: Session, third: Session) -> En
 {
     Entries {
         count,
-        first: rebuilt(first),
-        second: rebuilt(second),
-        third: rebuilt(third),
+        first,
+        second,
+        third,
     }
 }
 
@@ -56,8 +39,9 @@ fn gathered(count: usize, first: Session, second: Session, third: Session) -> En
 pub fn first_three(s: &[Session]) -> Entries
     ensures { λ r. ⌜ r ≡ byValue (now (s .entry)) ⌝ }
 {
-    let first = record_at(s, 0);
-    let second = record_at(s, 1);
-    let third = record_at(s, 2);
+    let none = absent();
+    let first = record_or(none, s, 0);
+    let second = record_or(none, s, 1);
+    let third = record_or(none, s, 2);
     gathered(s.len(), first, second, third)
 }

@@ -1,4 +1,5 @@
 pub mod Giving
+pub mod GivingBy
 pub mod Holders
 pub mod HoldersMut
 pub mod Holding
@@ -7,3 +8,5 @@ pub mod Laws
 pub mod Making
 pub mod Single
 pub mod Thin
+pub mod ThinBy
+pub mod Walking

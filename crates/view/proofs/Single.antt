@@ -8,10 +8,10 @@ use Rattle.base.specs.Parts.{Ties}
 use Rattle.base.specs.Single.{SamePart, SingleBy}
 use Rattle.base.proofs.Answers.{saidCommandCode-injective, saidNumber32-injective, saidOutcome-injective, saidResponseCode-injective, saidTag-injective}
 use Rattle.base.proofs.Parts.{same-part}
-use Rattle.table.specs.Dispatch.{dispatch, commandCodes}
 use Rattle.frame.specs.Answer.{whole}
 use Rattle.frame.specs.Command.{authRange, castCommand, handlesRange, parametersRange}
 use Rattle.frame.specs.Response.{bodyRange, castResponse}
+use Rattle.frame.specs.Rules.{bookOf}
 use Rattle.view.proofs.command.TpmCommand.cast as of-command-cast
 use Rattle.view.proofs.command.TpmCommand.tag as of-command-tag
 use Rattle.view.proofs.command.TpmCommand.size as of-command-size
@@ -37,11 +37,11 @@ use Rattle.view.proofs.response.TpmResponse.validate as of-response-val
 use Rattle.view.proofs.response.TpmResponseMut.cast_mut as of-response-cast-mut
 use Rattle.view.proofs.response.TpmResponseMut.body_mut as of-response-body-mut
 
-command-cast : SingleBy of-command-cast.ended (λ M 𝓤 H. of-command-cast.clauses 𝓤 H) (λ κs x y. SamePart (x .frame) (y .frame))
+command-cast : SingleBy of-command-cast.ended (λ M 𝓤 H. of-command-cast.clauses 𝓤 H) (λ κs x y. SamePart (x .frame) (y .frame) × (x .rules ≡ y .rules))
 command-cast = record {
   Post = _;
   says = λ 𝓤 H A mem run κs a g r s. id⊢ 𝓤 _;
-  once = λ κs a x y v w p q. (same-part (x .frame) (y .frame) p q, refl);
+  once = λ κs a x y v w p q. ((same-part (x .frame) (y .frame) (p .0) (q .0), p .1 ∙ sym (q .1)), refl);
 }
 
 command-tag : SingleBy of-command-tag.ended (λ M 𝓤 H. of-command-tag.clauses 𝓤 H) (λ κs x y. x ≡ y)
@@ -107,39 +107,39 @@ command-validate = record {
   once = λ κs a x y v w p q. (saidOutcome-injective x y (p ∙ sym q), refl);
 }
 
-command-cast-mut : SingleBy of-command-cast-mut.ended (λ M 𝓤 H. of-command-cast-mut.clauses 𝓤 H) (λ κs x y. SamePart (x .frame) (y .frame))
+command-cast-mut : SingleBy of-command-cast-mut.ended (λ M 𝓤 H. of-command-cast-mut.clauses 𝓤 H) (λ κs x y. SamePart (x .frame) (y .frame) × (x .rules ≡ y .rules))
 command-cast-mut = record {
   Post = _;
-  says = λ 𝓤 H A mem run κs a g r s. snd∗ 𝓤 (Ties 𝓤 H A κs (whole (now (a .0)) (castCommand dispatch commandCodes (now (a .0)))) (a .0) (r .frame)) _;
-  once = λ κs a x y v w p q. (same-part (x .frame) (y .frame) p q, refl);
+  says = λ 𝓤 H A mem run κs a g r s. snd∗ 𝓤 (Ties 𝓤 H A κs (whole (now (a .1 .0)) (castCommand (bookOf (a .0)) (now (a .1 .0)))) (a .1 .0) (r .frame)) _;
+  once = λ κs a x y v w p q. ((same-part (x .frame) (y .frame) (p .0) (q .0), p .1 ∙ sym (q .1)), refl);
 }
 
 command-handles-mut : SingleBy of-command-handles-mut.ended (λ M 𝓤 H. of-command-handles-mut.clauses 𝓤 H) (λ κs x y. SamePart x y)
 command-handles-mut = record {
   Post = _;
-  says = λ 𝓤 H A mem run κs a g r s. snd∗ 𝓤 (Ties 𝓤 H A κs (handlesRange dispatch commandCodes (now (a .0 .frame))) (a .0 .frame) r) _;
+  says = λ 𝓤 H A mem run κs a g r s. snd∗ 𝓤 (Ties 𝓤 H A κs (handlesRange (bookOf (a .0 .rules)) (now (a .0 .frame))) (a .0 .frame) r) _;
   once = λ κs a x y v w p q. (same-part x y p q, refl);
 }
 
 command-auth-area-mut : SingleBy of-command-auth-area-mut.ended (λ M 𝓤 H. of-command-auth-area-mut.clauses 𝓤 H) (λ κs x y. SamePart x y)
 command-auth-area-mut = record {
   Post = _;
-  says = λ 𝓤 H A mem run κs a g r s. snd∗ 𝓤 (Ties 𝓤 H A κs (authRange dispatch commandCodes (now (a .0 .frame))) (a .0 .frame) r) _;
+  says = λ 𝓤 H A mem run κs a g r s. snd∗ 𝓤 (Ties 𝓤 H A κs (authRange (bookOf (a .0 .rules)) (now (a .0 .frame))) (a .0 .frame) r) _;
   once = λ κs a x y v w p q. (same-part x y p q, refl);
 }
 
 command-parameters-mut : SingleBy of-command-parameters-mut.ended (λ M 𝓤 H. of-command-parameters-mut.clauses 𝓤 H) (λ κs x y. SamePart x y)
 command-parameters-mut = record {
   Post = _;
-  says = λ 𝓤 H A mem run κs a g r s. snd∗ 𝓤 (Ties 𝓤 H A κs (parametersRange dispatch commandCodes (now (a .0 .frame))) (a .0 .frame) r) _;
+  says = λ 𝓤 H A mem run κs a g r s. snd∗ 𝓤 (Ties 𝓤 H A κs (parametersRange (bookOf (a .0 .rules)) (now (a .0 .frame))) (a .0 .frame) r) _;
   once = λ κs a x y v w p q. (same-part x y p q, refl);
 }
 
-response-cast : SingleBy of-response-cast.ended (λ M 𝓤 H. of-response-cast.clauses 𝓤 H) (λ κs x y. SamePart (x .frame) (y .frame) × (x .cc ≡ y .cc))
+response-cast : SingleBy of-response-cast.ended (λ M 𝓤 H. of-response-cast.clauses 𝓤 H) (λ κs x y. SamePart (x .frame) (y .frame) × (x .rules ≡ y .rules) × (x .cc ≡ y .cc))
 response-cast = record {
   Post = _;
   says = λ 𝓤 H A mem run κs a g r s. id⊢ 𝓤 _;
-  once = λ κs a x y v w p q. ((same-part (x .frame) (y .frame) (p .0) (q .0), p .1 ∙ sym (q .1)), refl);
+  once = λ κs a x y v w p q. ((same-part (x .frame) (y .frame) (p .0) (q .0), p .1 ∙ sym (q .1), p .2 ∙ sym (q .2)), refl);
 }
 
 response-tag : SingleBy of-response-tag.ended (λ M 𝓤 H. of-response-tag.clauses 𝓤 H) (λ κs x y. x ≡ y)
@@ -194,7 +194,7 @@ response-validate = record {
 response-cast-mut : SingleBy of-response-cast-mut.ended (λ M 𝓤 H. of-response-cast-mut.clauses 𝓤 H) (λ κs x y. SamePart (x .frame) (y .frame))
 response-cast-mut = record {
   Post = _;
-  says = λ 𝓤 H A mem run κs a g r s. snd∗ 𝓤 (Ties 𝓤 H A κs (whole (now (a .0)) (castResponse (now (a .0)))) (a .0) (r .frame)) _;
+  says = λ 𝓤 H A mem run κs a g r s. snd∗ 𝓤 (Ties 𝓤 H A κs (whole (now (a .1 .0)) (castResponse (bookOf (a .0)) (now (a .1 .0)))) (a .1 .0) (r .frame)) _;
   once = λ κs a x y v w p q. (same-part (x .frame) (y .frame) p q, refl);
 }
 

@@ -6,25 +6,28 @@ ghost use lib.ListN.{length};
 ghost use Rattle.base.specs.Answer.{saidCommandCode, saidNumber32, saidOutcome, saidTag};
 ghost use Rattle.base.specs.Parts.{IsPart, Ties};
 ghost use Rattle.base.specs.Said.{done};
-ghost use Rattle.table.specs.Dispatch.{commandCodes, dispatch};
 ghost use Rattle.frame.specs.Answer.{whole};
 ghost use Rattle.frame.specs.Command.{authRange, castCommand, handlesRange, parametersRange, readCommand};
 ghost use Rattle.frame.specs.Header.{readCc, readSize, readTag};
+ghost use Rattle.frame.specs.Rules.{bookOf};
 use base::answer::CommandCode;
 use base::answer::Number32;
 use base::answer::Outcome;
 use base::answer::Tag;
+use frame::rules::Rules;
 
 pub struct TpmCommand<'a> {
     frame: &'a [u8],
+    rules: Rules,
 }
 
 impl<'a> TpmCommand<'a> {
-    pub fn cast(s: &'a [u8]) -> TpmCommand<'a>
-        ensures { λ r. ⌜ IsPart (whole (now (s .entry)) (castCommand dispatch commandCodes (now (s .entry)))) (s .entry) (r .frame) ⌝ }
+    pub fn cast(rules: Rules, s: &'a [u8]) -> TpmCommand<'a>
+        ensures { λ r. ⌜ IsPart (whole (now (s .entry)) (castCommand (bookOf rules) (now (s .entry)))) (s .entry) (r .frame) × (r .rules ≡ rules) ⌝ }
     {
         TpmCommand {
-            frame: frame::command::cast(s),
+            frame: frame::command::cast(rules, s),
+            rules,
         }
     }
 
@@ -41,9 +44,9 @@ impl<'a> TpmCommand<'a> {
     }
 
     pub fn cc(self) -> CommandCode
-        ensures { λ r. ⌜ saidCommandCode r ≡ readCc commandCodes (now (self .entry .frame)) ⌝ }
+        ensures { λ r. ⌜ saidCommandCode r ≡ readCc (bookOf (self .entry .rules)) (now (self .entry .frame)) ⌝ }
     {
-        frame::command::cc(self.frame)
+        frame::command::cc(self.rules, self.frame)
     }
 
     pub fn len(self) -> usize
@@ -59,59 +62,61 @@ impl<'a> TpmCommand<'a> {
     }
 
     pub fn handles(self) -> &'a [u8]
-        ensures { λ r. ⌜ IsPart (handlesRange dispatch commandCodes (now (self .entry .frame))) (self .entry .frame) r ⌝ }
+        ensures { λ r. ⌜ IsPart (handlesRange (bookOf (self .entry .rules)) (now (self .entry .frame))) (self .entry .frame) r ⌝ }
     {
-        frame::command::handles(self.frame)
+        frame::command::handles(self.rules, self.frame)
     }
 
     pub fn auth_area(self) -> &'a [u8]
-        ensures { λ r. ⌜ IsPart (authRange dispatch commandCodes (now (self .entry .frame))) (self .entry .frame) r ⌝ }
+        ensures { λ r. ⌜ IsPart (authRange (bookOf (self .entry .rules)) (now (self .entry .frame))) (self .entry .frame) r ⌝ }
     {
-        frame::command::auth_area(self.frame)
+        frame::command::auth_area(self.rules, self.frame)
     }
 
     pub fn parameters(self) -> &'a [u8]
-        ensures { λ r. ⌜ IsPart (parametersRange dispatch commandCodes (now (self .entry .frame))) (self .entry .frame) r ⌝ }
+        ensures { λ r. ⌜ IsPart (parametersRange (bookOf (self .entry .rules)) (now (self .entry .frame))) (self .entry .frame) r ⌝ }
     {
-        frame::command::parameters(self.frame)
+        frame::command::parameters(self.rules, self.frame)
     }
 
     pub fn validate(self) -> Outcome
-        ensures { λ r. ⌜ saidOutcome r ≡ done (readCommand dispatch commandCodes (now (self .entry .frame))) ⌝ }
+        ensures { λ r. ⌜ saidOutcome r ≡ done (readCommand (bookOf (self .entry .rules)) (now (self .entry .frame))) ⌝ }
     {
-        frame::command::validate(self.frame)
+        frame::command::validate(self.rules, self.frame)
     }
 }
 
 // The same that can be written through. It is given up for a part of what it holds.
 pub struct TpmCommandMut<'a> {
     frame: &'a mut [u8],
+    rules: Rules,
 }
 
 impl<'a> TpmCommandMut<'a> {
-    pub fn cast_mut(s: &'a mut [u8]) -> TpmCommandMut<'a>
-        ensures { λ r. Ties 𝓤 H A (search needs) (whole (now (s .entry)) (castCommand dispatch commandCodes (now (s .entry)))) (s .entry) (r .frame) ∗ ⌜ IsPart (whole (now (s .entry)) (castCommand dispatch commandCodes (now (s .entry)))) (s .entry) (r .frame) ⌝ }
+    pub fn cast_mut(rules: Rules, s: &'a mut [u8]) -> TpmCommandMut<'a>
+        ensures { λ r. Ties 𝓤 H A (search needs) (whole (now (s .entry)) (castCommand (bookOf rules) (now (s .entry)))) (s .entry) (r .frame) ∗ ⌜ IsPart (whole (now (s .entry)) (castCommand (bookOf rules) (now (s .entry)))) (s .entry) (r .frame) × (r .rules ≡ rules) ⌝ }
     {
         TpmCommandMut {
-            frame: frame::command::cast_mut(s),
+            frame: frame::command::cast_mut(rules, s),
+            rules,
         }
     }
 
     pub fn handles_mut(self) -> &'a mut [u8]
-        ensures { λ r. Ties 𝓤 H A (search needs) (handlesRange dispatch commandCodes (now (self .entry .frame))) (self .entry .frame) r ∗ ⌜ IsPart (handlesRange dispatch commandCodes (now (self .entry .frame))) (self .entry .frame) r ⌝ }
+        ensures { λ r. Ties 𝓤 H A (search needs) (handlesRange (bookOf (self .entry .rules)) (now (self .entry .frame))) (self .entry .frame) r ∗ ⌜ IsPart (handlesRange (bookOf (self .entry .rules)) (now (self .entry .frame))) (self .entry .frame) r ⌝ }
     {
-        frame::command::handles_mut(self.frame)
+        frame::command::handles_mut(self.rules, self.frame)
     }
 
     pub fn auth_area_mut(self) -> &'a mut [u8]
-        ensures { λ r. Ties 𝓤 H A (search needs) (authRange dispatch commandCodes (now (self .entry .frame))) (self .entry .frame) r ∗ ⌜ IsPart (authRange dispatch commandCodes (now (self .entry .frame))) (self .entry .frame) r ⌝ }
+        ensures { λ r. Ties 𝓤 H A (search needs) (authRange (bookOf (self .entry .rules)) (now (self .entry .frame))) (self .entry .frame) r ∗ ⌜ IsPart (authRange (bookOf (self .entry .rules)) (now (self .entry .frame))) (self .entry .frame) r ⌝ }
     {
-        frame::command::auth_area_mut(self.frame)
+        frame::command::auth_area_mut(self.rules, self.frame)
     }
 
     pub fn parameters_mut(self) -> &'a mut [u8]
-        ensures { λ r. Ties 𝓤 H A (search needs) (parametersRange dispatch commandCodes (now (self .entry .frame))) (self .entry .frame) r ∗ ⌜ IsPart (parametersRange dispatch commandCodes (now (self .entry .frame))) (self .entry .frame) r ⌝ }
+        ensures { λ r. Ties 𝓤 H A (search needs) (parametersRange (bookOf (self .entry .rules)) (now (self .entry .frame))) (self .entry .frame) r ∗ ⌜ IsPart (parametersRange (bookOf (self .entry .rules)) (now (self .entry .frame))) (self .entry .frame) r ⌝ }
     {
-        frame::command::parameters_mut(self.frame)
+        frame::command::parameters_mut(self.rules, self.frame)
     }
 }

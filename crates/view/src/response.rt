@@ -7,27 +7,30 @@ ghost use lib.ListN.{length};
 ghost use Rattle.base.specs.Answer.{saidNumber32, saidOutcome, saidResponseCode, saidTag};
 ghost use Rattle.base.specs.Parts.{IsPart, Ties};
 ghost use Rattle.base.specs.Said.{done};
-ghost use Rattle.table.specs.Dispatch.{dispatch};
 ghost use Rattle.frame.specs.Answer.{whole};
 ghost use Rattle.frame.specs.Header.{readRc, readSize, readTag};
 ghost use Rattle.frame.specs.Response.{bodyRange, castResponse, readResponse};
+ghost use Rattle.frame.specs.Rules.{bookOf};
 use base::answer::Number32;
 use base::answer::Outcome;
 use base::answer::ResponseCode;
 use base::answer::Tag;
 use base::code::TpmCc;
+use frame::rules::Rules;
 
 pub struct TpmResponse<'a> {
     frame: &'a [u8],
+    rules: Rules,
     cc: TpmCc,
 }
 
 impl<'a> TpmResponse<'a> {
-    pub fn cast(cc: TpmCc, s: &'a [u8]) -> TpmResponse<'a>
-        ensures { λ r. ⌜ IsPart (whole (now (s .entry)) (castResponse (now (s .entry)))) (s .entry) (r .frame) × (r .cc ≡ cc) ⌝ }
+    pub fn cast(rules: Rules, cc: TpmCc, s: &'a [u8]) -> TpmResponse<'a>
+        ensures { λ r. ⌜ IsPart (whole (now (s .entry)) (castResponse (bookOf rules) (now (s .entry)))) (s .entry) (r .frame) × (r .rules ≡ rules) × (r .cc ≡ cc) ⌝ }
     {
         TpmResponse {
-            frame: frame::response::cast(s),
+            frame: frame::response::cast(rules, s),
+            rules,
             cc,
         }
     }
@@ -45,9 +48,9 @@ impl<'a> TpmResponse<'a> {
     }
 
     pub fn rc(self) -> ResponseCode
-        ensures { λ r. ⌜ saidResponseCode r ≡ readRc (now (self .entry .frame)) ⌝ }
+        ensures { λ r. ⌜ saidResponseCode r ≡ readRc (bookOf (self .entry .rules)) (now (self .entry .frame)) ⌝ }
     {
-        frame::response::rc(self.frame)
+        frame::response::rc(self.rules, self.frame)
     }
 
     pub fn len(self) -> usize
@@ -69,9 +72,9 @@ impl<'a> TpmResponse<'a> {
     }
 
     pub fn validate(self) -> Outcome
-        ensures { λ r. ⌜ saidOutcome r ≡ done (readResponse dispatch (self .entry .cc .0) (now (self .entry .frame))) ⌝ }
+        ensures { λ r. ⌜ saidOutcome r ≡ done (readResponse (bookOf (self .entry .rules)) (self .entry .cc .0) (now (self .entry .frame))) ⌝ }
     {
-        frame::response::validate(self.cc, self.frame)
+        frame::response::validate(self.rules, self.cc, self.frame)
     }
 }
 
@@ -81,11 +84,11 @@ pub struct TpmResponseMut<'a> {
 }
 
 impl<'a> TpmResponseMut<'a> {
-    pub fn cast_mut(s: &'a mut [u8]) -> TpmResponseMut<'a>
-        ensures { λ r. Ties 𝓤 H A (search needs) (whole (now (s .entry)) (castResponse (now (s .entry)))) (s .entry) (r .frame) ∗ ⌜ IsPart (whole (now (s .entry)) (castResponse (now (s .entry)))) (s .entry) (r .frame) ⌝ }
+    pub fn cast_mut(rules: Rules, s: &'a mut [u8]) -> TpmResponseMut<'a>
+        ensures { λ r. Ties 𝓤 H A (search needs) (whole (now (s .entry)) (castResponse (bookOf rules) (now (s .entry)))) (s .entry) (r .frame) ∗ ⌜ IsPart (whole (now (s .entry)) (castResponse (bookOf rules) (now (s .entry)))) (s .entry) (r .frame) ⌝ }
     {
         TpmResponseMut {
-            frame: frame::response::cast_mut(s),
+            frame: frame::response::cast_mut(rules, s),
         }
     }
 

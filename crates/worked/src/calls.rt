@@ -1,6 +1,7 @@
 // A line's call, by its name.
 use crate::frames;
 use crate::records;
+use crate::rules;
 use crate::show;
 use crate::text;
 use crate::told::Told;
@@ -29,9 +30,11 @@ fn ran(s: &[u8]) -> bool {
     let mut room = [0u8; 4096];
     let bytes = text::unhex(text::word(s, 1), &mut room);
     let first = text::decimal(text::word(s, 2));
-    let second = text::decimal(text::rest(s, 3));
-    if bytes.good && first.good && second.good {
+    let second = text::decimal(text::word(s, 3));
+    let named = rules::told(text::behind(s, 3));
+    if bytes.good && first.good && second.good && named.good {
         answered(
+            named.number,
             text::word(s, 0),
             &mut room[..bytes.number],
             first.number,
@@ -42,12 +45,14 @@ fn ran(s: &[u8]) -> bool {
     }
 }
 
-fn answered(name: &[u8], bytes: &mut [u8], first: usize, second: usize) -> bool {
+fn answered(rules: u32, name: &[u8], bytes: &mut [u8], first: usize, second: usize) -> bool {
     let mut out = [0u64; 8];
-    if records::answered(name, bytes, first, second) || views::answered(name, bytes, first) {
+    if records::answered(rules, name, bytes, first, second)
+        || views::answered(rules::by(rules), name, bytes, first)
+    {
         return true;
     }
-    let told = call(name, bytes, first, second, &mut out);
+    let told = call(rules, name, bytes, first, second, &mut out);
     if told.known {
         show::answer(told, out, bytes);
     }
@@ -55,7 +60,14 @@ fn answered(name: &[u8], bytes: &mut [u8], first: usize, second: usize) -> bool 
 }
 
 // The call of that name, on the bytes and the two numbers of the line.
-fn call(name: &[u8], bytes: &mut [u8], first: usize, second: usize, out: &mut [u64; 8]) -> Told {
+fn call(
+    rules: u32,
+    name: &[u8],
+    bytes: &mut [u8],
+    first: usize,
+    second: usize,
+    out: &mut [u64; 8],
+) -> Told {
     let told = view(name, bytes, first, out);
     if told.known {
         return told;
@@ -72,7 +84,7 @@ fn call(name: &[u8], bytes: &mut [u8], first: usize, second: usize, out: &mut [u
     if told.known {
         return told;
     }
-    frames::call(name, bytes, first, out)
+    frames::call(rules, name, bytes, first, out)
 }
 
 // The copy of bytes, which has no call for C: so many of ff are put at the place.

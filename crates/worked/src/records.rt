@@ -6,38 +6,46 @@ use crate::told::filled;
 use crate::told::read;
 use crate::told::wrote;
 use base::answer::Range;
+use base::code::TpmSt;
 use base::part::Span;
 use base::part::part;
 use base::part::part_mut;
+use frame::header::RSP_COMMAND;
 
 // Whether there is such a call, which is then made.
-pub(crate) fn answered(name: &[u8], bytes: &mut [u8], first: usize, second: usize) -> bool {
+pub(crate) fn answered(
+    rules: u32,
+    name: &[u8],
+    bytes: &mut [u8],
+    first: usize,
+    second: usize,
+) -> bool {
     if check::same(name, b"command_parts") {
-        command_parts(bytes);
+        command_parts(rules, bytes);
         return true;
     }
     if check::same(name, b"command_again") && first <= bytes.len() {
-        command_again(bytes, first);
+        command_again(rules, bytes, first);
         return true;
     }
     if first > 4294967295 {
         return false;
     }
     if check::same(name, b"response_parts") {
-        response_parts(first as u32, bytes);
+        response_parts(rules, first as u32, bytes);
         return true;
     }
     if check::same(name, b"response_again") && second <= bytes.len() {
-        response_again(first as u32, bytes, second);
+        response_again(rules, first as u32, bytes, second);
         return true;
     }
     false
 }
 
 // The tag, the code, where the handles end, the areas in the order of the wire, and how many entries there are.
-fn command_parts(s: &[u8]) {
+fn command_parts(rules: u32, s: &[u8]) {
     let mut out = [0u64; 8];
-    let parts = capi::command::skein_command_parts(s, &mut out);
+    let parts = capi::command::skein_command_parts(rules, s, &mut out);
     if parts.refusal != 0 {
         show::answer(read(0, parts.refusal), out, s);
         return;
@@ -57,9 +65,9 @@ fn command_parts(s: &[u8]) {
     show::entries(c.entries);
 }
 
-fn response_parts(code: u32, s: &[u8]) {
+fn response_parts(rules: u32, code: u32, s: &[u8]) {
     let mut out = [0u64; 8];
-    let parts = capi::response::skein_response_parts(code, s, &mut out);
+    let parts = capi::response::skein_response_parts(rules, code, s, &mut out);
     if parts.refusal != 0 {
         show::answer(read(0, parts.refusal), out, s);
         return;
@@ -87,13 +95,13 @@ fn at(s: &[u8], place: Span) -> &[u8] {
     part(s, range)
 }
 
-fn command_again(bytes: &mut [u8], room: usize) {
+fn command_again(rules: u32, bytes: &mut [u8], room: usize) {
     let mut copy = [0u8; 4096];
     base::field::write_bytes(&mut copy, 0, bytes);
     let len = bytes.len();
     let s = at(&copy, Span { from: 0, to: len });
     let mut out = [0u64; 8];
-    let parts = capi::command::skein_command_parts(s, &mut out);
+    let parts = capi::command::skein_command_parts(rules, s, &mut out);
     if parts.refusal != 0 {
         show::answer(wrote(0, parts.refusal), out, bytes);
         return;
@@ -104,6 +112,7 @@ fn command_again(bytes: &mut [u8], room: usize) {
     let parameters = at(s, c.parameters);
     let place = Range::Is { from: 0, to: room };
     let number = capi::command::skein_command_write(
+        rules,
         c.tag.0,
         c.cc.0,
         handles,
@@ -116,13 +125,18 @@ fn command_again(bytes: &mut [u8], room: usize) {
     show::answer(wrote(1, number), out, bytes);
 }
 
-fn response_again(code: u32, bytes: &mut [u8], room: usize) {
+// The tag of the answer to a bad tag is asked for where it was read.
+fn mode(rules: u32, tag: TpmSt) -> u32 {
+    if tag.0 == RSP_COMMAND { 2 } else { rules }
+}
+
+fn response_again(rules: u32, code: u32, bytes: &mut [u8], room: usize) {
     let mut copy = [0u8; 4096];
     base::field::write_bytes(&mut copy, 0, bytes);
     let len = bytes.len();
     let s = at(&copy, Span { from: 0, to: len });
     let mut out = [0u64; 8];
-    let parts = capi::response::skein_response_parts(code, s, &mut out);
+    let parts = capi::response::skein_response_parts(rules, code, s, &mut out);
     if parts.refusal != 0 {
         show::answer(wrote(0, parts.refusal), out, bytes);
         return;
@@ -133,6 +147,7 @@ fn response_again(code: u32, bytes: &mut [u8], room: usize) {
     let parameters = at(s, r.parameters);
     let place = Range::Is { from: 0, to: room };
     let number = capi::response::skein_response_write(
+        mode(rules, r.tag),
         r.rc.0,
         code,
         handles,

@@ -32,10 +32,11 @@ pub(crate) fn word(s: &[u8], k: usize) -> &[u8] {
     &s[from..to]
 }
 
-// All behind the first k words.
-pub(crate) fn rest(s: &[u8], k: usize) -> &[u8] {
+// All behind the word that has k words before it.
+pub(crate) fn behind(s: &[u8], k: usize) -> &[u8] {
     let from = start(s, k);
-    &s[from..]
+    let to = stop(s, from);
+    &s[to..]
 }
 
 fn start(s: &[u8], k: usize) -> usize

@@ -2,7 +2,7 @@
 //! of it.
 
 use super::*;
-use crate::calls::{self, Field, Parts, Session, Sessions, Span};
+use crate::calls::{Field, Parts, Session, Sessions, Span};
 
 /// The size of the TPM2B at a place of an area that ends at the end of `s`.
 fn tpm2b(s: &[u8], at: usize) -> Read<usize> {
@@ -47,17 +47,16 @@ fn parts(s: &[u8], areas: [(usize, usize); 3], sessions: Sessions) -> calls::Fra
     calls::Frame { tag: tag_field(s) as u16, code: code_field(s), handles, auth, parameters, sessions }
 }
 
-fn command_read(s: &[u8]) -> Read<calls::Frame> {
-    let frame = prefix(s).and_then(nothing_behind)?;
-    command_judged(frame)?;
+fn command_read(by: u32, s: &[u8]) -> Read<calls::Frame> {
+    let frame = command_judged(by, s, whole)?;
     let (handles, from, to) = command_areas(frame)?;
     let sessions = walk(&frame[..to], from, true)?;
     Ok(parts(s, [(HEADER, handles), (from, to), (to, s.len())], sessions))
 }
 
-fn response_read(cc: u32, s: &[u8]) -> Read<calls::Frame> {
-    let frame = prefix(s).and_then(nothing_behind)?;
-    response_judged(frame)?;
+/// The answer to a bad tag is an error response, whatever the command that has a row.
+fn response_read(by: u32, cc: u32, s: &[u8]) -> Read<calls::Frame> {
+    response_judged(by, s, whole)?;
     let row = row_of(cc)?;
     if code_field(s) != 0 {
         return match (tag_field(s), s.len()) {
@@ -79,18 +78,18 @@ fn tell_parts(read: Read<calls::Frame>, out: &mut Out) -> Parts {
     Parts { refusal, frame }
 }
 
-pub fn command_validate(s: &[u8], out: &mut Out) -> u32 {
-    tell(command_read(s), |_| [], out)
+pub fn command_validate(by: u32, s: &[u8], out: &mut Out) -> u32 {
+    tell(command_read(by, s), |_| [], out)
 }
 
-pub fn command_parts(s: &[u8], out: &mut Out) -> Parts {
-    tell_parts(command_read(s), out)
+pub fn command_parts(by: u32, s: &[u8], out: &mut Out) -> Parts {
+    tell_parts(command_read(by, s), out)
 }
 
-pub fn response_validate(cc: u32, s: &[u8], out: &mut Out) -> u32 {
-    tell(response_read(cc, s), |_| [], out)
+pub fn response_validate(by: u32, cc: u32, s: &[u8], out: &mut Out) -> u32 {
+    tell(response_read(by, cc, s), |_| [], out)
 }
 
-pub fn response_parts(cc: u32, s: &[u8], out: &mut Out) -> Parts {
-    tell_parts(response_read(cc, s), out)
+pub fn response_parts(by: u32, cc: u32, s: &[u8], out: &mut Out) -> Parts {
+    tell_parts(response_read(by, cc, s), out)
 }

@@ -1,10 +1,13 @@
 //! Everything at random, mostly right: so that each check is reached with anything behind it.
 
-use super::{COUNTLESS, Kind, Pool, garbage, handles, in_rooms};
-use crate::calls::{Field, Session, Sessions};
+use super::{COUNTLESS, Kind, Pool, garbage, handles, in_rooms_by};
+use crate::calls::{Field, RUST, Session, Sessions};
 use crate::frame::known::{self, Row};
 use crate::random::Random;
 use crate::write::Desk;
+
+/// One round of so many is made in every mode, the others in the Rust's alone: most calls of the suite are made here.
+const EVERY_MODE: usize = 4;
 
 pub fn each(desk: &mut Desk, pool: &Pool, random: &mut Random, rounds: usize) {
     let rows: Vec<Row> = known::rows().collect();
@@ -26,7 +29,7 @@ pub fn each(desk: &mut Desk, pool: &Pool, random: &mut Random, rounds: usize) {
         let lent = if round % 8_192 == 0 { 66_000 } else { 60 + random.number() as usize % 120 };
         pool.fill(&mut desk.case.lent, lent, random);
         desk.case.sessions = Sessions { count, three: [0, 1, 2].map(|at| session(at < count, lent, random)) };
-        in_rooms(desk);
+        in_rooms_by(desk, if round % EVERY_MODE == 0 { kind.modes() } else { &[RUST] });
     }
 }
 

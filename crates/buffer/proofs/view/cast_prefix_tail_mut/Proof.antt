@@ -3,11 +3,6 @@
 use Prim.Native.Nat.{ℕ}
 use mathlib.Core.List.{List}
 use contract.Running.{givenOf, tables, tablesOf}
-use mathlib.Core.Path.{refl}
-use mir.Syntax.{tyInt, w64}
-use mir.Val.{vint}
-use denote.Builtin.{usize}
-use denote.Plain.{uint-tells}
 use denote.Triple.Spec.{tripleOf}
 use denote.Triple.Table.{entered, cited}
 use Rattle.base.specs.Answer.{Part}
@@ -15,6 +10,7 @@ use Rattle.base.specs.Said.{Said}
 use lib.ListN.{length}
 use Rattle.base.specs.Parts.{behind, upTo}
 use Rattle.buffer.specs.View.{prefix}
+use Rattle.base.proofs.ByValue.{number}
 use Rattle.base.proofs.Handing.{PartMut}
 use Rattle.base.proofs.HandingBy.{Ranges, hands-out-by}
 use Rattle.base.proofs.part.part_mut.Symbol as part-def
@@ -37,6 +33,6 @@ unfolding code.routine tablesOf
 cast-prefix-tail-mut-spec 𝓤 H 𝓜 𝓖 𝓡 =
     entered 𝓤 H (tripleOf 𝓤 H (𝓖 .A) f.signature (f.spec 𝓤 H (𝓖 .A) (𝓜 .mem) (𝓡 .run)))
     (tables 𝓤 H 𝓜 𝓡 code.env .C) (tables 𝓤 H 𝓜 𝓡 code.env .Λ) #this code.function (code.unfolded 𝓤 H 𝓜 𝓡)
-    (hands-out-by usize (tyInt w64) (λ n. vint w64 n) (uint-tells w64) (λ n is. (tt, record { fits = is .1 })) (λ n. tt) (λ n f. refl) #range range 𝓤 H (𝓖 .A) (givenOf 𝓤 H 𝓜 𝓖) (𝓜 .mem) (𝓡 .run) (tablesOf 𝓤 H 𝓜 (tables 𝓤 H 𝓜 𝓡 code.env))
-    (cited 𝓤 H (Ranges usize (tyInt w64) (λ n. vint w64 n) (uint-tells w64) (λ n is. (tt, record { fits = is .1 })) (λ n. tt) (λ n f. refl) #range range 𝓤 H (𝓖 .A)) 𝓜 𝓡 code.env #range range-def.routine code.calls-buffer·view·prefix-tail-range (range-thm.met 𝓤 H 𝓜 𝓖 𝓡))
+    (hands-out-by number #range range 𝓤 H (𝓖 .A) (givenOf 𝓤 H 𝓜 𝓖) (𝓜 .mem) (𝓡 .run) (tablesOf 𝓤 H 𝓜 (tables 𝓤 H 𝓜 𝓡 code.env))
+    (cited 𝓤 H (Ranges number #range range 𝓤 H (𝓖 .A)) 𝓜 𝓡 code.env #range range-def.routine code.calls-buffer·view·prefix-tail-range (range-thm.met 𝓤 H 𝓜 𝓖 𝓡))
     (cited 𝓤 H (PartMut 𝓤 H (𝓖 .A) (𝓜 .mem) (𝓡 .run)) 𝓜 𝓡 code.env #part-mut part-def.routine code.calls-base·part·part-mut (part-thm.met 𝓤 H 𝓜 𝓖 𝓡)))

@@ -1,9 +1,26 @@
--- `capi::command::skein_command_cc` meets its contract: it reports what `cc` said.
+-- `capi::command::skein_command_cc` meets its contract: it reports what `cc` said by the rules that were named, or that none were.
 -- Assumes nothing.
-use Rattle.capi.proofs.Reported.{as-said}
+use Rattle.base.proofs.Answers.{learnt}
+use Rattle.capi.specs.Rules.{rulesNumbered, saidRules}
+use Rattle.capi.proofs.Ruled.{as-named, not-named}
 use borrow.Author.Needs.{needs}
 use Rattle.capi.proofs.command.skein_command_cc.Statement.{statement}
 use Rattle.capi.proofs.command.skein_command_cc.Tie as tie
+
+rules-named-requires : tie.Need-rules-named-requires
+rules-named-requires c κs = search needs
+
+enum-known-n : tie.Need-enum-known-n
+enum-known-n c = search needs
+
+cast-two : tie.Need-cast-two
+cast-two c = search needs
+
+two-requires : tie.Need-two-requires
+two-requires c κs = search needs
+
+enum-known-by : tie.Need-enum-known-by
+enum-known-by c = search needs
 
 cc-requires : tie.Need-cc-requires
 cc-requires c κs = search needs
@@ -12,7 +29,21 @@ command-code-requires : tie.Need-command-code-requires
 command-code-requires c κs = search needs
 
 returns : tie.Need-returns
-returns c = as-said (c .before .before .cc .ensures) (c .command-code .ensures)
+returns c = not-named _ (rulesNumbered _) _ (learnt saidRules (c .before .before .before .n .given .1) (c .before .before .before .before .before .rules-named .ensures)) (c .two .ensures)
+
+returns-2 : tie.Need-returns-2
+returns-2 c = as-named _ (rulesNumbered _) _ (learnt saidRules (c .before .before .before .before .by .given .1) (c .before .before .before .before .before .before .rules-named .ensures)) (c .before .before .cc .ensures) (c .command-code .ensures)
 
 pub skein-command-cc-spec : {M : Type 1} → statement M
-skein-command-cc-spec = tie.close (tie.spec cc-requires command-code-requires returns)
+skein-command-cc-spec =
+    tie.close
+    (tie.spec
+    rules-named-requires
+    enum-known-n
+    cast-two
+    two-requires
+    enum-known-by
+    cc-requires
+    command-code-requires
+    returns
+    returns-2)

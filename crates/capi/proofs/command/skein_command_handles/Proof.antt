@@ -1,9 +1,26 @@
--- `capi::command::skein_command_handles` meets its contract: it reports what `handles_range` said.
+-- `capi::command::skein_command_handles` meets its contract: it reports what `handles_range` said by the rules that were named, or that none were.
 -- Assumes nothing.
-use Rattle.capi.proofs.Reported.{as-said}
+use Rattle.base.proofs.Answers.{learnt}
+use Rattle.capi.specs.Rules.{rulesNumbered, saidRules}
+use Rattle.capi.proofs.Ruled.{as-named, not-named}
 use borrow.Author.Needs.{needs}
 use Rattle.capi.proofs.command.skein_command_handles.Statement.{statement}
 use Rattle.capi.proofs.command.skein_command_handles.Tie as tie
+
+rules-named-requires : tie.Need-rules-named-requires
+rules-named-requires c κs = search needs
+
+enum-known-n : tie.Need-enum-known-n
+enum-known-n c = search needs
+
+cast-two : tie.Need-cast-two
+cast-two c = search needs
+
+two-requires : tie.Need-two-requires
+two-requires c κs = search needs
+
+enum-known-by : tie.Need-enum-known-by
+enum-known-by c = search needs
 
 handles-range-requires : tie.Need-handles-range-requires
 handles-range-requires c κs = search needs
@@ -12,7 +29,21 @@ range-requires : tie.Need-range-requires
 range-requires c κs = search needs
 
 returns : tie.Need-returns
-returns c = as-said (c .before .before .handles-range .ensures) (c .range .ensures)
+returns c = not-named _ (rulesNumbered _) _ (learnt saidRules (c .before .before .before .n .given .1) (c .before .before .before .before .before .rules-named .ensures)) (c .two .ensures)
+
+returns-2 : tie.Need-returns-2
+returns-2 c = as-named _ (rulesNumbered _) _ (learnt saidRules (c .before .before .before .before .by .given .1) (c .before .before .before .before .before .before .rules-named .ensures)) (c .before .before .handles-range .ensures) (c .range .ensures)
 
 pub skein-command-handles-spec : {M : Type 1} → statement M
-skein-command-handles-spec = tie.close (tie.spec handles-range-requires range-requires returns)
+skein-command-handles-spec =
+    tie.close
+    (tie.spec
+    rules-named-requires
+    enum-known-n
+    cast-two
+    two-requires
+    enum-known-by
+    handles-range-requires
+    range-requires
+    returns
+    returns-2)

@@ -3,13 +3,34 @@
 use mathlib.Core.Path.{ap, _∙_}
 use Rattle.base.specs.Said.{after}
 use Rattle.base.proofs.Answers.{learnt}
+use Rattle.base.proofs.Checks.{goes-on, stops}
 use Rattle.frame.specs.Answer.{saidCommand}
 use Rattle.capi.specs.Frame.{noCommand}
 use Rattle.capi.specs.Out.{none}
+use Rattle.capi.specs.Rules.{rulesNumbered, saidRules}
 use Rattle.capi.proofs.Reported.{answered, refused}
+use Rattle.capi.proofs.Ruled.{not-named}
 use borrow.Author.Needs.{needs}
 use Rattle.capi.proofs.command.skein_command_parts.Statement.{statement}
 use Rattle.capi.proofs.command.skein_command_parts.Tie as tie
+
+rules-named-requires : tie.Need-rules-named-requires
+rules-named-requires c κs = search needs
+
+enum-known-n : tie.Need-enum-known-n
+enum-known-n c = search needs
+
+cast-two : tie.Need-cast-two
+cast-two c = search needs
+
+two-requires : tie.Need-two-requires
+two-requires c κs = search needs
+
+no-command-requires : tie.Need-no-command-requires
+no-command-requires c κs = search needs
+
+enum-known-by : tie.Need-enum-known-by
+enum-known-by c = search needs
 
 parts-requires : tie.Need-parts-requires
 parts-requires c κs = search needs
@@ -20,22 +41,44 @@ enum-known-e c = search needs
 refuse-requires : tie.Need-refuse-requires
 refuse-requires c κs = search needs
 
-no-command-requires : tie.Need-no-command-requires
-no-command-requires c κs = search needs
+no-command-requires-2 : tie.Need-no-command-requires-2
+no-command-requires-2 c κs = search needs
 
 enum-known-command : tie.Need-enum-known-command
 enum-known-command c = search needs
 
 returns : tie.Need-returns
 returns c =
-    let read = learnt saidCommand (c .before .before .before .before .e .given .1) (c .before .before .before .before .before .before .parts .ensures) in
-    (refused none _ _ _ _ _ read (c .before .refuse .ensures), c .no-command .ensures ∙ ap (after noCommand) read)
+    let unknown = learnt saidRules (c .before .before .before .before .n .given .1) (c .before .before .before .before .before .before .rules-named .ensures) in
+    (not-named none (rulesNumbered _) _ unknown (c .before .two .ensures), c .no-command .ensures ∙ ap (after noCommand) (stops (rulesNumbered _) _ unknown))
 
 returns-2 : tie.Need-returns-2
 returns-2 c =
-    let read = learnt saidCommand (c .before .command .given .1) (c .before .before .before .parts .ensures) in
+    let by = learnt saidRules (c .before .before .before .before .before .before .before .before .by .given .1) (c .before .before .before .before .before .before .before .before .before .before .rules-named .ensures) in
+    let read = learnt saidCommand (c .before .before .before .before .e .given .1) (c .before .before .before .before .before .before .parts .ensures) ∙ goes-on (rulesNumbered _) _ by in
+    (refused none _ _ _ _ _ read (c .before .refuse .ensures), c .no-command2 .ensures ∙ ap (after noCommand) read)
+
+returns-3 : tie.Need-returns-3
+returns-3 c =
+    let by = learnt saidRules (c .before .before .before .before .before .by .given .1) (c .before .before .before .before .before .before .before .rules-named .ensures) in
+    let read = learnt saidCommand (c .before .command .given .1) (c .before .before .before .parts .ensures) ∙ goes-on (rulesNumbered _) _ by in
     (answered none _ _ _ read, ap (after noCommand) read)
 
 pub skein-command-parts-spec : {M : Type 1} → statement M
 skein-command-parts-spec =
-    tie.close (tie.spec parts-requires enum-known-e refuse-requires no-command-requires enum-known-command returns returns-2)
+    tie.close
+    (tie.spec
+    rules-named-requires
+    enum-known-n
+    cast-two
+    two-requires
+    no-command-requires
+    enum-known-by
+    parts-requires
+    enum-known-e
+    refuse-requires
+    no-command-requires-2
+    enum-known-command
+    returns
+    returns-2
+    returns-3)

@@ -1,9 +1,31 @@
--- `capi::command::skein_command_write` meets its contract: it reports what `write` said, and the room is as that left it.
+-- `capi::command::skein_command_write` meets its contract: it reports what `write` said by the rules that were named, and the room is as that left it; or that none
+-- were, and it is as it was.
 -- Assumes nothing.
-use Rattle.capi.proofs.Reported.{as-said}
+use mathlib.Core.Path.{_∙_, ap}
+use denote.Ref.{now}
+use Rattle.base.proofs.Answers.{learnt}
+use Rattle.base.proofs.Checks.{goes-on, stops}
+use Rattle.marshal.specs.Write.{roomAfter}
+use Rattle.capi.specs.Rules.{rulesNumbered, saidRules}
+use Rattle.capi.proofs.Ruled.{as-named, not-named}
 use borrow.Author.Needs.{needs}
 use Rattle.capi.proofs.command.skein_command_write.Statement.{statement}
 use Rattle.capi.proofs.command.skein_command_write.Tie as tie
+
+rules-named-requires : tie.Need-rules-named-requires
+rules-named-requires c κs = search needs
+
+enum-known-n : tie.Need-enum-known-n
+enum-known-n c = search needs
+
+cast-two : tie.Need-cast-two
+cast-two c = search needs
+
+two-requires : tie.Need-two-requires
+two-requires c κs = search needs
+
+enum-known-by : tie.Need-enum-known-by
+enum-known-by c = search needs
 
 write-requires : tie.Need-write-requires
 write-requires c κs = search needs
@@ -11,11 +33,33 @@ write-requires c κs = search needs
 count-requires : tie.Need-count-requires
 count-requires c κs = search needs
 
+returns : tie.Need-returns
+returns c =
+    let room = now (c .before .before .before .before .before .before .before .before .before .before .args .room) in
+    let none = learnt saidRules (c .before .before .before .n .given .1) (c .before .before .before .before .before .rules-named .ensures) in
+    (not-named _ (rulesNumbered _) _ none (c .two .ensures), ap (roomAfter room) (stops (rulesNumbered _) _ none))
+
 same-length : tie.Need-same-length
 same-length c = search needs
 
-returns : tie.Need-returns
-returns c = let said = c .before .before .before .before .write in (as-said (said .ensures .0) (c .count .ensures), said .ensures .1)
+returns-2 : tie.Need-returns-2
+returns-2 c =
+    let room = now (c .before .before .before .before .before .before .before .before .before .before .before .before .before .before .args .room) in
+    let by = learnt saidRules (c .before .before .before .before .before .before .before .by .given .1) (c .before .before .before .before .before .before .before .before .before .rules-named .ensures) in
+    let said = c .before .before .before .before .write .ensures in
+    (as-named _ (rulesNumbered _) _ by (said .0) (c .count .ensures), said .1 ∙ ap (roomAfter room) (goes-on (rulesNumbered _) _ by))
 
 pub skein-command-write-spec : {M : Type 1} → statement M
-skein-command-write-spec = tie.close (tie.spec write-requires count-requires same-length returns)
+skein-command-write-spec =
+    tie.close
+    (tie.spec
+    rules-named-requires
+    enum-known-n
+    cast-two
+    two-requires
+    enum-known-by
+    write-requires
+    count-requires
+    returns
+    same-length
+    returns-2)

@@ -3,7 +3,6 @@
 use denote.Ref.{now}
 use Rattle.frame.specs.Command.{commandAreas, authRange}
 use Rattle.frame.specs.Answer.{saidAreas}
-use Rattle.table.specs.Dispatch.{dispatch, commandCodes}
 use Rattle.base.proofs.Answers.{learnt}
 use Rattle.base.proofs.Checks.{goes-on, stops}
 use borrow.Author.Needs.{needs}
@@ -21,11 +20,11 @@ enum-known-a c = search needs
 
 returns : tie.Need-returns
 unfolding authRange
-returns c = stops (commandAreas dispatch commandCodes (now (c .before .before .before .before .before .args .s))) _ (learnt saidAreas (c .before .e .given .1) (c .before .before .before .areas .ensures))
+returns c = stops (commandAreas _ (now (c .before .before .before .before .before .args .s))) _ (learnt saidAreas (c .before .e .given .1) (c .before .before .before .areas .ensures))
 
 returns-2 : tie.Need-returns-2
 unfolding authRange
-returns-2 c = goes-on (commandAreas dispatch commandCodes (now (c .before .before .before .before .before .args .s))) _ (learnt saidAreas (c .before .a .given .1) (c .before .before .before .areas .ensures))
+returns-2 c = goes-on (commandAreas _ (now (c .before .before .before .before .before .args .s))) _ (learnt saidAreas (c .before .a .given .1) (c .before .before .before .areas .ensures))
 
 pub auth-area-range-spec : {M : Type 1} → statement M
 auth-area-range-spec =

@@ -9,7 +9,6 @@ use Rattle.frame.specs.Command.{judgeCommand, castCommandPrefix}
 use Rattle.base.specs.Answer.{saidCount}
 use Rattle.base.specs.Parts.{upTo}
 use Rattle.frame.specs.Answer.{saidAreas}
-use Rattle.table.specs.Dispatch.{dispatch, commandCodes}
 use Rattle.base.proofs.Answers.{learnt}
 use Rattle.base.proofs.Checks.{goes-on, stops}
 use Rattle.frame.proofs.Headers.{prefix-fits}
@@ -47,7 +46,7 @@ unfolding castCommandPrefix
 returns-2 c =
     let s = now (c .before .before .before .before .before .before .before .before .before .before .args .s) in
     ap upTo
-    (stops (judgeCommand dispatch commandCodes (take (c .before .before .before .before .before .before .n .given .0 .0) s)) _ (learnt saidAreas (c .before .e2 .given .1) (c .before .before .before .judge .ensures))
+    (stops (judgeCommand _ (take (c .before .before .before .before .before .before .n .given .0 .0) s)) _ (learnt saidAreas (c .before .e2 .given .1) (c .before .before .before .judge .ensures))
     ∙ goes-on (framePrefix s) _ (learnt saidCount (c .before .before .before .before .before .before .n .given .1) (c .before .before .before .before .before .before .before .before .frame-prefix .ensures)))
 
 returns-3 : tie.Need-returns-3
@@ -55,7 +54,7 @@ unfolding castCommandPrefix
 returns-3 c =
     let s = now (c .before .before .before .before .before .before .before .before .before .args .s) in
     ap upTo
-    (goes-on (judgeCommand dispatch commandCodes (take (c .before .before .before .before .before .n .given .0 .0) s)) _ (learnt saidAreas (c .enum-told .given .1) (c .before .before .judge .ensures))
+    (goes-on (judgeCommand _ (take (c .before .before .before .before .before .n .given .0 .0) s)) _ (learnt saidAreas (c .enum-told .given .1) (c .before .before .judge .ensures))
     ∙ goes-on (framePrefix s) _ (learnt saidCount (c .before .before .before .before .before .n .given .1) (c .before .before .before .before .before .before .before .frame-prefix .ensures)))
 
 pub cast-prefix-range-spec : {M : Type 1} → statement M

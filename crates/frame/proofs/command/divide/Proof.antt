@@ -5,7 +5,6 @@ use denote.Ref.{now}
 use lib.Seq.{length-take-le}
 use Rattle.base.specs.Answer.{saidOutcome}
 use Rattle.base.proofs.Answers.{learnt}
-use Rattle.table.specs.Dispatch.{dispatch, commandCodes}
 use Rattle.frame.specs.Answer.{areasOf, saidAreas}
 use Rattle.frame.specs.Command.{castCommand, readCommand}
 use Rattle.frame.proofs.Divisions.{commandEntries, areas-refused, walk-refused, walk-done, cast-fits}
@@ -24,7 +23,7 @@ enum-known-a c = search needs
 
 slice-aggregate-walk : tie.Need-slice-aggregate-walk
 slice-aggregate-walk c =
-    sym (length-take-le _ _ (cast-fits dispatch commandCodes (now (c .before .before .before .before .before .before .args .s)) (learnt saidAreas (c .before .before .a .given .1) (c .before .before .before .before .cast-areas .ensures)) .4))
+    sym (length-take-le _ _ (cast-fits _ (now (c .before .before .before .before .before .before .args .s)) (learnt saidAreas (c .before .before .a .given .1) (c .before .before .before .before .cast-areas .ensures)) .4))
 
 walk-requires : tie.Need-walk-requires
 walk-requires c κs = search needs
@@ -39,21 +38,21 @@ returns : tie.Need-returns
 unfolding readCommand
 returns c =
     let s = now (c .before .before .before .before .before .args .s) in
-    ap areasOf (areas-refused (castCommand dispatch commandCodes s) (commandEntries s) (learnt saidAreas (c .before .e .given .1) (c .before .before .before .cast-areas .ensures)))
+    ap areasOf (areas-refused (castCommand _ s) (commandEntries s) (learnt saidAreas (c .before .e .given .1) (c .before .before .before .cast-areas .ensures)))
 
 returns-2 : tie.Need-returns-2
 unfolding readCommand
 returns-2 c =
     let found = c .before .before .before .before .before .before in
     let s = now (found .before .before .before .before .args .s) in
-    ap areasOf (walk-refused (castCommand dispatch commandCodes s) (commandEntries s) (learnt saidAreas (found .a .given .1) (found .before .before .cast-areas .ensures)) (learnt saidOutcome (c .before .e2 .given .1) (c .before .before .before .walk .ensures)))
+    ap areasOf (walk-refused (castCommand _ s) (commandEntries s) (learnt saidAreas (found .a .given .1) (found .before .before .cast-areas .ensures)) (learnt saidOutcome (c .before .e2 .given .1) (c .before .before .before .walk .ensures)))
 
 returns-3 : tie.Need-returns-3
 unfolding readCommand
 returns-3 c =
     let found = c .before .before .before .before .before in
     let s = now (found .before .before .before .before .args .s) in
-    walk-done (castCommand dispatch commandCodes s) (commandEntries s) (learnt saidAreas (found .a .given .1) (found .before .before .cast-areas .ensures)) (learnt saidOutcome (c .enum-told .given .1) (c .before .before .walk .ensures))
+    walk-done (castCommand _ s) (commandEntries s) (learnt saidAreas (found .a .given .1) (found .before .before .cast-areas .ensures)) (learnt saidOutcome (c .enum-told .given .1) (c .before .before .walk .ensures))
 
 pub divide-spec : {M : Type 1} → statement M
 divide-spec =

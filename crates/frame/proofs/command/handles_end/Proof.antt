@@ -5,8 +5,8 @@ use denote.Ref.{now}
 use Rattle.base.specs.Said.{refuses}
 use Rattle.frame.specs.Header.{readCc}
 use Rattle.frame.specs.Command.{commandHandles}
-use Rattle.table.specs.Dispatch.{dispatch, commandCodes}
 use Rattle.table.specs.Table.{rowFor, saidFound}
+use Rattle.frame.specs.Rules.{bookOf}
 use Rattle.table.proofs.Table.{row-known}
 use Rattle.base.proofs.Answers.{learnt}
 use Rattle.base.proofs.Checks.{goes-on, stops}
@@ -20,7 +20,10 @@ short-requires c κs = search needs
 
 returns : tie.Need-returns
 unfolding commandHandles readCc
-returns c = ap refuses (c .short .ensures) ∙ stops (readCc commandCodes (now (c .before .before .before .args .s))) _ (short-header (now (c .before .before .before .args .s)) _ (c .before .if1 .taken))
+returns c =
+    let s = now (c .before .before .before .args .s) in
+    let book = bookOf (c .before .before .before .args .rules) in
+    ap refuses (c .short .ensures) ∙ stops (readCc book s) _ (short-header s _ (c .before .if1 .taken))
 
 shared-slice-read-be32 : tie.Need-shared-slice-read-be32
 shared-slice-read-be32 c = search needs
@@ -59,30 +62,33 @@ returns-2 : tie.Need-returns-2
 unfolding commandHandles
 returns-2 c =
     let s = now (c .before .before .before .before .before .before .before .before .before .before .before .before .args .s) in
+    let book = bookOf (c .before .before .before .before .before .before .before .before .before .before .before .before .args .rules) in
     let ten = c .before .before .before .before .before .before .before .before .before .before .if1 .left in
     let is = c .before .before .before .before .before .be32 .ensures ∙ code-bytes s ten in
     let found = learnt saidFound (c .before .before .row .given .1) (c .before .before .before .before .find .ensures) in
     c .handle-area .ensures
-    ∙ goes-on (rowFor dispatch _) _ found
-    ∙ goes-on (readCc commandCodes s) _ (cc-read s _ commandCodes is ten (row-known _ (sym found)))
+    ∙ goes-on (rowFor (book .rows) _) _ found
+    ∙ goes-on (readCc book s) _ (cc-read s _ book is ten (row-known _ (sym found)))
 
 returns-3 : tie.Need-returns-3
 unfolding commandHandles
 returns-3 c =
     let s = now (c .before .before .before .before .before .before .before .before .before .before .before .before .before .args .s) in
+    let book = bookOf (c .before .before .before .before .before .before .before .before .before .before .before .before .before .args .rules) in
     let ten = c .before .before .before .before .before .before .before .before .before .before .before .if1 .left in
     let is = c .before .before .before .before .before .before .be32 .ensures ∙ code-bytes s ten in
-    stops (rowFor dispatch _) _ (learnt saidFound (c .before .before .before .e .given .1) (c .before .before .before .before .before .find .ensures))
-    ∙ goes-on (readCc commandCodes s) _ (cc-read s _ commandCodes is ten (sym (c .before .cc-known .ensures) ∙ c .if2 .taken))
+    stops (rowFor (book .rows) _) _ (learnt saidFound (c .before .before .before .e .given .1) (c .before .before .before .before .before .find .ensures))
+    ∙ goes-on (readCc book s) _ (cc-read s _ book is ten (sym (c .before .cc-known .ensures) ∙ c .if2 .taken))
 
 returns-4 : tie.Need-returns-4
 unfolding commandHandles
 returns-4 c =
     let s = now (c .before .before .before .before .before .before .before .before .before .before .before .before .before .before .args .s) in
+    let book = bookOf (c .before .before .before .before .before .before .before .before .before .before .before .before .before .before .args .rules) in
     let ten = c .before .before .before .before .before .before .before .before .before .before .before .before .if1 .left in
     let is = c .before .before .before .before .before .before .before .be32 .ensures ∙ code-bytes s ten in
     ap refuses (c .refused .ensures)
-    ∙ stops (readCc commandCodes s) _ (cc-refused s _ commandCodes is ten (sym (c .before .before .cc-known .ensures) ∙ c .before .if2 .left))
+    ∙ stops (readCc book s) _ (cc-refused s _ book is ten (sym (c .before .before .cc-known .ensures) ∙ c .before .if2 .left))
 
 pub handles-end-spec : {M : Type 1} → statement M
 handles-end-spec =

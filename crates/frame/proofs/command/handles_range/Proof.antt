@@ -3,7 +3,6 @@
 use denote.Ref.{now}
 use Rattle.frame.specs.Command.{commandHandles, handlesRange}
 use Rattle.base.specs.Answer.{saidCount}
-use Rattle.table.specs.Dispatch.{dispatch, commandCodes}
 use Rattle.base.proofs.Answers.{learnt}
 use Rattle.base.proofs.Checks.{goes-on, stops}
 use borrow.Author.Needs.{needs}
@@ -21,11 +20,11 @@ enum-known-to c = search needs
 
 returns : tie.Need-returns
 unfolding handlesRange
-returns c = stops (commandHandles dispatch commandCodes (now (c .before .before .before .before .before .args .s))) _ (learnt saidCount (c .before .e .given .1) (c .before .before .before .handles-end .ensures))
+returns c = stops (commandHandles _ (now (c .before .before .before .before .before .args .s))) _ (learnt saidCount (c .before .e .given .1) (c .before .before .before .handles-end .ensures))
 
 returns-2 : tie.Need-returns-2
 unfolding handlesRange
-returns-2 c = goes-on (commandHandles dispatch commandCodes (now (c .before .before .before .before .before .args .s))) _ (learnt saidCount (c .before .to .given .1) (c .before .before .before .handles-end .ensures))
+returns-2 c = goes-on (commandHandles _ (now (c .before .before .before .before .before .args .s))) _ (learnt saidCount (c .before .to .given .1) (c .before .before .before .handles-end .ensures))
 
 pub handles-range-spec : {M : Type 1} → statement M
 handles-range-spec =

@@ -9,9 +9,9 @@ use lib.ListN.{length}
 use lib.Seq.{length-take-le}
 use Rattle.base.specs.Said.{gives, done}
 use Rattle.base.proofs.Answers.{learnt}
-use Rattle.table.specs.Dispatch.{dispatch, commandCodes}
 use Rattle.frame.specs.Answer.{commandByValue, commandOf, saidAreas}
 use Rattle.frame.specs.Command.{castCommand, readCommand}
+use Rattle.frame.specs.Rules.{bookOf}
 use Rattle.frame.proofs.Divisions.{commandEntries, parts-of, walk-read, not-divided, by-value, cast-fits}
 use Rattle.frame.proofs.Headers.{tag-bytes, code-bytes}
 use borrow.Author.Needs.{needs}
@@ -29,13 +29,13 @@ enum-known-a c = search needs
 
 -- the areas were found, and the entries passed
 found : (c : tie.After-a)
-    → (gives (c .a .given .0 .0) ≡ castCommand dispatch commandCodes (now (c .before .before .before .before .args .s)))
+    → (gives (c .a .given .0 .0) ≡ castCommand (bookOf (c .before .before .before .before .args .rules)) (now (c .before .before .before .before .args .s)))
     × (done (commandEntries (now (c .before .before .before .before .args .s)) (c .a .given .0 .0)) ≡ gives tt)
 unfolding readCommand
 found c = parts-of _ (commandEntries (now (c .before .before .before .before .args .s))) (learnt saidAreas (c .a .given .1) (c .before .before .divide .ensures))
 
 header-there : (c : tie.After-a) → 10 ≤ length (now (c .before .before .before .before .args .s))
-header-there c = cast-fits dispatch commandCodes _ (found c .0) .0
+header-there c = cast-fits _ _ (found c .0) .0
 
 shared-slice-read-be16 : tie.Need-shared-slice-read-be16
 shared-slice-read-be16 c = let ten = header-there (c .before .before) in omega arith
@@ -62,7 +62,7 @@ be32-requires : tie.Need-be32-requires
 be32-requires c κs = search needs
 
 slice-aggregate-entries : tie.Need-slice-aggregate-entries
-slice-aggregate-entries c = sym (length-take-le _ _ (cast-fits dispatch commandCodes _ (found (c .before .before .before .before .before .before .before .before .before .before) .0) .4))
+slice-aggregate-entries c = sym (length-take-le _ _ (cast-fits _ _ (found (c .before .before .before .before .before .before .before .before .before .before) .0) .4))
 
 entries-requires : tie.Need-entries-requires
 entries-requires c κs = found (c .before .before .before .before .before .before .before .before .before .before) .1
@@ -70,14 +70,14 @@ entries-requires c κs = found (c .before .before .before .before .before .befor
 returns : tie.Need-returns
 returns c =
     let s = now (c .before .before .before .before .before .args .s) in
-    ap (commandByValue s) (not-divided (readCommand dispatch commandCodes s) (learnt saidAreas (c .before .e .given .1) (c .before .before .before .divide .ensures)))
+    ap (commandByValue s) (not-divided (readCommand _ s) (learnt saidAreas (c .before .e .given .1) (c .before .before .before .divide .ensures)))
 
 returns-2 : tie.Need-returns-2
 unfolding readCommand
 returns-2 c =
     let d = c .before .before .before .before .before .before .before .before .before .before .before in
     let s = now (d .before .before .before .before .args .s) in
-    let read = walk-read (castCommand dispatch commandCodes s) (commandEntries s) (found d .0) (c .entries .ensures) in
+    let read = walk-read (castCommand _ s) (commandEntries s) (found d .0) (c .entries .ensures) in
     by-value commandOf s _ (read .2) (c .before .before .before .before .before .before .before .be16 .ensures ∙ tag-bytes s (header-there d)) (c .before .before .be32 .ensures ∙ code-bytes s (header-there d)) (read .1)
 
 pub parts-spec : {M : Type 1} → statement M

@@ -4,7 +4,6 @@ use mathlib.Core.Path.{ap, _∙_}
 use denote.Ref.{now}
 use Rattle.base.specs.Said.{refuses}
 use Rattle.frame.specs.Header.{setCc}
-use Rattle.table.specs.Dispatch.{dispatch}
 use Rattle.table.specs.Table.{saidFound}
 use Rattle.base.proofs.Answers.{learnt}
 use Rattle.frame.proofs.Headers.{short-header, refused-set, set-by, cc-set, cc-not-set}
@@ -36,7 +35,7 @@ write-u32-requires c κs = search needs
 returns-2 : tie.Need-returns-2
 returns-2 c =
     let s = now (c .before .before .before .before .before .before .args .s) in
-    refused-set s (cc-not-set s _ (c .before .before .before .before .if1 .left) dispatch (learnt saidFound (c .before .e .given .1) (c .before .before .before .find .ensures)))
+    refused-set s (cc-not-set s _ (c .before .before .before .before .if1 .left) _ (learnt saidFound (c .before .e .given .1) (c .before .before .before .find .ensures)))
 
 same-length : tie.Need-same-length
 same-length c = search needs
@@ -44,7 +43,7 @@ same-length c = search needs
 returns-3 : tie.Need-returns-3
 returns-3 c =
     let s = now (c .before .before .before .before .before .before .before .before .before .args .s) in
-    let by = set-by s (cc-set s _ (c .before .before .before .before .before .before .before .if1 .left) dispatch (learnt saidFound (c .before .before .before .before .enum-told .given .1) (c .before .before .before .before .before .before .find .ensures))) in
+    let by = set-by s (cc-set s _ (c .before .before .before .before .before .before .before .if1 .left) _ (learnt saidFound (c .before .before .before .before .enum-told .given .1) (c .before .before .before .before .before .before .find .ensures))) in
     (c .before .before .write-u32 .ensures .0 ∙ by .0, c .before .before .write-u32 .ensures .1 ∙ by .1)
 
 pub set-cc-spec : {M : Type 1} → statement M

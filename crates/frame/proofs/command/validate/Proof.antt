@@ -4,7 +4,6 @@ use mathlib.Core.Path.{ap}
 use denote.Ref.{now}
 use Rattle.base.specs.Said.{done}
 use Rattle.base.proofs.Answers.{learnt}
-use Rattle.table.specs.Dispatch.{dispatch, commandCodes}
 use Rattle.frame.specs.Answer.{saidAreas}
 use Rattle.frame.specs.Command.{readCommand}
 use Rattle.frame.proofs.Divisions.{not-divided, was-divided}
@@ -24,12 +23,12 @@ enum-told c = search needs
 returns : tie.Need-returns
 returns c =
     let s = now (c .before .before .before .before .before .args .s) in
-    ap done (not-divided (readCommand dispatch commandCodes s) (learnt saidAreas (c .before .e .given .1) (c .before .before .before .divide .ensures)))
+    ap done (not-divided (readCommand _ s) (learnt saidAreas (c .before .e .given .1) (c .before .before .before .divide .ensures)))
 
 returns-2 : tie.Need-returns-2
 returns-2 c =
     let s = now (c .before .before .before .before .args .s) in
-    was-divided (readCommand dispatch commandCodes s) (learnt saidAreas (c .enum-told .given .1) (c .before .before .divide .ensures))
+    was-divided (readCommand _ s) (learnt saidAreas (c .enum-told .given .1) (c .before .before .divide .ensures))
 
 pub validate-spec : {M : Type 1} → statement M
 validate-spec = tie.close (tie.spec divide-requires enum-known-e enum-told returns returns-2)

@@ -2,7 +2,9 @@
 -- Assumes nothing.
 use mathlib.Core.Path.{ap, sym, _∙_}
 use denote.Ref.{now}
+use Rattle.base.specs.Members.{isIn}
 use Rattle.base.specs.Said.{refuses}
+use Rattle.table.specs.Tags.{tags}
 use Rattle.frame.specs.Header.{readTag}
 use Rattle.frame.proofs.Headers.{short-header, tag-bytes, tag-read, tag-refused}
 use borrow.Author.Needs.{needs}
@@ -32,16 +34,18 @@ refused-requires : tie.Need-refused-requires
 refused-requires c κs = search needs
 
 returns-2 : tie.Need-returns-2
+unfolding readTag
 returns-2 c =
     let s = now (c .before .before .before .before .before .before .before .args .s) in
     let ten = c .before .before .before .before .before .if1 .left in
-    tag-read s _ (c .before .before .be16 .ensures ∙ tag-bytes s ten) ten (sym (c .before .tag-known .ensures) ∙ c .if2 .taken)
+    tag-read s _ (λ tag. isIn tag tags) (c .before .before .be16 .ensures ∙ tag-bytes s ten) ten (sym (c .before .tag-known .ensures) ∙ c .if2 .taken)
 
 returns-3 : tie.Need-returns-3
+unfolding readTag
 returns-3 c =
     let s = now (c .before .before .before .before .before .before .before .before .args .s) in
     let ten = c .before .before .before .before .before .before .if1 .left in
-    ap refuses (c .refused .ensures) ∙ tag-refused s _ (c .before .before .before .be16 .ensures ∙ tag-bytes s ten) ten (sym (c .before .before .tag-known .ensures) ∙ c .before .if2 .left)
+    ap refuses (c .refused .ensures) ∙ tag-refused s _ (λ tag. isIn tag tags) (c .before .before .before .be16 .ensures ∙ tag-bytes s ten) ten (sym (c .before .before .tag-known .ensures) ∙ c .before .if2 .left)
 
 pub tag-spec : {M : Type 1} → statement M
 tag-spec =

@@ -5,7 +5,6 @@ use denote.Ref.{now}
 use borrow.Author.Tests.{eq-eqb, ne-eqb}
 use Rattle.base.specs.Answer.{saidResponseCode}
 use Rattle.table.specs.Table.{saidFound}
-use Rattle.table.specs.Dispatch.{dispatch}
 use Rattle.frame.specs.Response.{castResponse, responseAreas}
 use Rattle.base.proofs.Answers.{learnt}
 use Rattle.base.proofs.Checks.{stops}
@@ -35,33 +34,33 @@ enum-known-row c = search needs
 success-areas-requires : tie.Need-success-areas-requires
 success-areas-requires c κs =
     let coded = c .before .before .before .before .before .before .before in
-    response-header (now (coded .before .before .before .before .args .s)) (learnt saidResponseCode (coded .code .given .1) (coded .before .before .cast-code .ensures))
+    response-header _ (now (coded .before .before .before .before .args .s)) (learnt saidResponseCode (coded .code .given .1) (coded .before .before .cast-code .ensures))
 
 error-areas-requires : tie.Need-error-areas-requires
 error-areas-requires c κs =
     let coded = c .before .before .before .before .before .before .before in
-    response-header (now (coded .before .before .before .before .args .s)) (learnt saidResponseCode (coded .code .given .1) (coded .before .before .cast-code .ensures))
+    response-header _ (now (coded .before .before .before .before .args .s)) (learnt saidResponseCode (coded .code .given .1) (coded .before .before .cast-code .ensures))
 
 returns : tie.Need-returns
 unfolding responseAreas
-returns c = stops (castResponse (now (c .before .before .before .before .before .args .s))) _ (learnt saidResponseCode (c .before .e .given .1) (c .before .before .before .cast-code .ensures))
+returns c = stops (castResponse _ (now (c .before .before .before .before .before .args .s))) _ (learnt saidResponseCode (c .before .e .given .1) (c .before .before .before .cast-code .ensures))
 
 returns-2 : tie.Need-returns-2
-returns-2 c = areas-no-row dispatch _ (now (c .before .before .before .before .before .before .before .before .before .args .s)) (learnt saidResponseCode (c .before .before .before .before .before .code .given .1) (c .before .before .before .before .before .before .before .cast-code .ensures)) (learnt saidFound (c .before .e2 .given .1) (c .before .before .before .find .ensures))
+returns-2 c = areas-no-row _ (now (c .before .before .before .before .before .before .before .before .before .args .s)) _ (learnt saidResponseCode (c .before .before .before .before .before .code .given .1) (c .before .before .before .before .before .before .before .cast-code .ensures)) (learnt saidFound (c .before .e2 .given .1) (c .before .before .before .find .ensures))
 
 returns-3 : tie.Need-returns-3
 returns-3 c =
     let found = c .before .before .before .before in
     let coded = found .before .before .before .before in
     c .success-areas .ensures
-    ∙ areas-success dispatch _ (now (coded .before .before .before .before .args .s)) (learnt saidResponseCode (coded .code .given .1) (coded .before .before .cast-code .ensures)) (learnt saidFound (found .row .given .1) (found .before .before .find .ensures)) (eq-eqb _ _ (c .before .if1 .taken))
+    ∙ areas-success _ (now (coded .before .before .before .before .args .s)) _ (learnt saidResponseCode (coded .code .given .1) (coded .before .before .cast-code .ensures)) (learnt saidFound (found .row .given .1) (found .before .before .find .ensures)) (eq-eqb _ _ (c .before .if1 .taken))
 
 returns-4 : tie.Need-returns-4
 returns-4 c =
     let found = c .before .before .before .before in
     let coded = found .before .before .before .before in
     c .error-areas .ensures
-    ∙ areas-error dispatch _ (now (coded .before .before .before .before .args .s)) (learnt saidResponseCode (coded .code .given .1) (coded .before .before .cast-code .ensures)) (learnt saidFound (found .row .given .1) (found .before .before .find .ensures)) (ne-eqb _ _ (c .before .if1 .left))
+    ∙ areas-error _ (now (coded .before .before .before .before .args .s)) _ (learnt saidResponseCode (coded .code .given .1) (coded .before .before .cast-code .ensures)) (learnt saidFound (found .row .given .1) (found .before .before .find .ensures)) (ne-eqb _ _ (c .before .if1 .left))
 
 pub areas-spec : {M : Type 1} → statement M
 areas-spec =

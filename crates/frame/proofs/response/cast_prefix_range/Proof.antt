@@ -45,7 +45,7 @@ unfolding castResponsePrefix
 returns-2 c =
     let s = now (c .before .before .before .before .before .before .before .before .before .before .args .s) in
     ap upTo
-    (stops (judgeResponse (take (c .before .before .before .before .before .before .n .given .0 .0) s)) _ (learnt saidResponseCode (c .before .e2 .given .1) (c .before .before .before .judge .ensures))
+    (stops (judgeResponse _ (take (c .before .before .before .before .before .before .n .given .0 .0) s)) _ (learnt saidResponseCode (c .before .e2 .given .1) (c .before .before .before .judge .ensures))
     ∙ goes-on (framePrefix s) _ (learnt saidCount (c .before .before .before .before .before .before .n .given .1) (c .before .before .before .before .before .before .before .before .frame-prefix .ensures)))
 
 returns-3 : tie.Need-returns-3
@@ -53,7 +53,7 @@ unfolding castResponsePrefix
 returns-3 c =
     let s = now (c .before .before .before .before .before .before .before .before .before .args .s) in
     ap upTo
-    (goes-on (judgeResponse (take (c .before .before .before .before .before .n .given .0 .0) s)) _ (learnt saidResponseCode (c .enum-told .given .1) (c .before .before .judge .ensures))
+    (goes-on (judgeResponse _ (take (c .before .before .before .before .before .n .given .0 .0) s)) _ (learnt saidResponseCode (c .enum-told .given .1) (c .before .before .judge .ensures))
     ∙ goes-on (framePrefix s) _ (learnt saidCount (c .before .before .before .before .before .n .given .1) (c .before .before .before .before .before .before .before .frame-prefix .ensures)))
 
 pub cast-prefix-range-spec : {M : Type 1} → statement M

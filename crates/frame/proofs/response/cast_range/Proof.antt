@@ -19,10 +19,10 @@ enum-told : tie.Need-enum-told
 enum-told c = search needs
 
 returns : tie.Need-returns
-returns c = stops (castResponse (now (c .before .before .before .before .before .args .s))) _ (learnt saidResponseCode (c .before .e .given .1) (c .before .before .before .cast-code .ensures))
+returns c = stops (castResponse _ (now (c .before .before .before .before .before .args .s))) _ (learnt saidResponseCode (c .before .e .given .1) (c .before .before .before .cast-code .ensures))
 
 returns-2 : tie.Need-returns-2
-returns-2 c = goes-on (castResponse (now (c .before .before .before .before .args .s))) _ (learnt saidResponseCode (c .enum-told .given .1) (c .before .before .cast-code .ensures))
+returns-2 c = goes-on (castResponse _ (now (c .before .before .before .before .args .s))) _ (learnt saidResponseCode (c .enum-told .given .1) (c .before .before .cast-code .ensures))
 
 pub cast-range-spec : {M : Type 1} → statement M
 cast-range-spec = tie.close (tie.spec cast-code-requires enum-known-e enum-told returns returns-2)

@@ -4,7 +4,6 @@ use mathlib.Core.Path.{ap}
 use denote.Ref.{now}
 use Rattle.base.specs.Answer.{saidOutcome}
 use Rattle.base.proofs.Answers.{learnt}
-use Rattle.table.specs.Dispatch.{dispatch}
 use Rattle.frame.specs.Answer.{areasOf, saidAreas}
 use Rattle.frame.specs.Response.{responseAreas, readResponse}
 use Rattle.frame.proofs.Divisions.{responseEntries, areas-refused, walk-refused, walk-done}
@@ -34,21 +33,21 @@ returns : tie.Need-returns
 unfolding readResponse
 returns c =
     let s = now (c .before .before .before .before .before .args .s) in
-    ap areasOf (areas-refused (responseAreas dispatch _ s) (responseEntries s) (learnt saidAreas (c .before .e .given .1) (c .before .before .before .areas .ensures)))
+    ap areasOf (areas-refused (responseAreas _ _ s) (responseEntries s) (learnt saidAreas (c .before .e .given .1) (c .before .before .before .areas .ensures)))
 
 returns-2 : tie.Need-returns-2
 unfolding readResponse
 returns-2 c =
     let found = c .before .before .before .before .before in
     let s = now (found .before .before .before .before .args .s) in
-    ap areasOf (walk-refused (responseAreas dispatch _ s) (responseEntries s) (learnt saidAreas (found .a .given .1) (found .before .before .areas .ensures)) (learnt saidOutcome (c .before .e2 .given .1) (c .before .before .before .walk .ensures)))
+    ap areasOf (walk-refused (responseAreas _ _ s) (responseEntries s) (learnt saidAreas (found .a .given .1) (found .before .before .areas .ensures)) (learnt saidOutcome (c .before .e2 .given .1) (c .before .before .before .walk .ensures)))
 
 returns-3 : tie.Need-returns-3
 unfolding readResponse
 returns-3 c =
     let found = c .before .before .before .before in
     let s = now (found .before .before .before .before .args .s) in
-    walk-done (responseAreas dispatch _ s) (responseEntries s) (learnt saidAreas (found .a .given .1) (found .before .before .areas .ensures)) (learnt saidOutcome (c .enum-told .given .1) (c .before .before .walk .ensures))
+    walk-done (responseAreas _ _ s) (responseEntries s) (learnt saidAreas (found .a .given .1) (found .before .before .areas .ensures)) (learnt saidOutcome (c .enum-told .given .1) (c .before .before .walk .ensures))
 
 pub divide-spec : {M : Type 1} → statement M
 divide-spec =

@@ -1,9 +1,8 @@
 -- `frame::response::error_areas` meets its contract: the tag decides, and then the length.
 -- Assumes nothing.
-use mathlib.Core.Path.{ap, _∙_}
+use mathlib.Core.Path.{ap, sym, _∙_}
 use denote.Ref.{now}
 use Rattle.base.specs.Said.{refuses}
-use borrow.Author.Tests.{eq-eqb, ne-eqb}
 use Rattle.frame.proofs.Headers.{tag-bytes}
 use Rattle.frame.proofs.Divisions.{error-tag, error-long, error-read}
 use borrow.Author.Needs.{needs}
@@ -19,26 +18,35 @@ shared-slice-read-be16-2 c = search needs
 be16-requires : tie.Need-be16-requires
 be16-requires c κs = search needs
 
-sub-t13 : tie.Need-sub-t13
-sub-t13 c = search needs
+is-error-tag-requires : tie.Need-is-error-tag-requires
+is-error-tag-requires c κs = search needs
+
+sub-t14 : tie.Need-sub-t14
+sub-t14 c = search needs
 
 returns : tie.Need-returns
 returns c =
-    let s = now (c .before .before .before .before .before .before .before .args .s) in
-    error-long s (c .before .before .before .be16 .ensures ∙ tag-bytes s (c .before .before .before .before .before .before .before .pre)) (eq-eqb _ _ (c .before .if1 .taken)) (c .if2 .taken)
+    let tested = c .before in
+    let start = tested .before .before .before .before .before .before in
+    let s = now (start .args .s) in
+    error-long _ s (tested .before .before .be16 .ensures ∙ tag-bytes s (start .pre)) (sym (tested .before .is-error-tag .ensures) ∙ tested .if1 .taken) (c .if2 .taken)
 
 refused-requires : tie.Need-refused-requires
 refused-requires c κs = search needs
 
 returns-2 : tie.Need-returns-2
 returns-2 c =
-    let s = now (c .before .before .before .before .before .before .before .args .s) in
-    error-read s (c .before .before .before .be16 .ensures ∙ tag-bytes s (c .before .before .before .before .before .before .before .pre)) (eq-eqb _ _ (c .before .if1 .taken)) (c .if2 .left)
+    let tested = c .before in
+    let start = tested .before .before .before .before .before .before in
+    let s = now (start .args .s) in
+    error-read _ s (tested .before .before .be16 .ensures ∙ tag-bytes s (start .pre)) (sym (tested .before .is-error-tag .ensures) ∙ tested .if1 .taken) (c .if2 .left)
 
 returns-3 : tie.Need-returns-3
 returns-3 c =
-    let s = now (c .before .before .before .before .before .before .before .args .s) in
-    ap refuses (c .refused .ensures) ∙ error-tag s (c .before .before .before .be16 .ensures ∙ tag-bytes s (c .before .before .before .before .before .before .before .pre)) (ne-eqb _ _ (c .before .if1 .left))
+    let tested = c .before in
+    let start = tested .before .before .before .before .before .before in
+    let s = now (start .args .s) in
+    ap refuses (c .refused .ensures) ∙ error-tag _ s (tested .before .before .be16 .ensures ∙ tag-bytes s (start .pre)) (sym (tested .before .is-error-tag .ensures) ∙ tested .if1 .left)
 
 pub error-areas-spec : {M : Type 1} → statement M
 error-areas-spec =
@@ -47,7 +55,8 @@ error-areas-spec =
     shared-slice-read-be16
     shared-slice-read-be16-2
     be16-requires
-    sub-t13
+    is-error-tag-requires
+    sub-t14
     returns
     refused-requires
     returns-2

@@ -1,8 +1,8 @@
--- `frame::response::judge` meets its contract: it goes by what `frame_tag` said.
+-- `frame::response::judge` meets its contract: it goes by what `response_tag` said.
 -- Assumes nothing.
 use mathlib.Core.Path.{_∙_}
 use denote.Ref.{now}
-use Rattle.frame.specs.Header.{readFrameTag}
+use Rattle.frame.specs.Header.{readResponseTag}
 use Rattle.frame.specs.Response.{judgeResponse}
 use Rattle.base.specs.Answer.{saidTag}
 use Rattle.base.proofs.Answers.{learnt}
@@ -11,8 +11,8 @@ use borrow.Author.Needs.{needs}
 use Rattle.frame.proofs.response.judge.Statement.{statement}
 use Rattle.frame.proofs.response.judge.Tie as tie
 
-frame-tag-requires : tie.Need-frame-tag-requires
-frame-tag-requires c κs = search needs
+response-tag-requires : tie.Need-response-tag-requires
+response-tag-requires c κs = search needs
 
 enum-known-e : tie.Need-enum-known-e
 enum-known-e c = search needs
@@ -25,12 +25,12 @@ rc-requires c κs = search needs
 
 returns : tie.Need-returns
 unfolding judgeResponse
-returns c = stops (readFrameTag (now (c .before .before .before .before .before .args .s))) _ (learnt saidTag (c .before .e .given .1) (c .before .before .before .frame-tag .ensures))
+returns c = stops (readResponseTag _ (now (c .before .before .before .before .before .args .s))) _ (learnt saidTag (c .before .e .given .1) (c .before .before .before .response-tag .ensures))
 
 returns-2 : tie.Need-returns-2
 unfolding judgeResponse
-returns-2 c = c .rc .ensures ∙ goes-on (readFrameTag (now (c .before .before .before .before .before .args .s))) _ (learnt saidTag (c .before .enum-told .given .1) (c .before .before .before .frame-tag .ensures))
+returns-2 c = c .rc .ensures ∙ goes-on (readResponseTag _ (now (c .before .before .before .before .before .args .s))) _ (learnt saidTag (c .before .enum-told .given .1) (c .before .before .before .response-tag .ensures))
 
 pub judge-spec : {M : Type 1} → statement M
 judge-spec =
-    tie.close (tie.spec frame-tag-requires enum-known-e enum-told rc-requires returns returns-2)
+    tie.close (tie.spec response-tag-requires enum-known-e enum-told rc-requires returns returns-2)

@@ -8,9 +8,9 @@ use denote.Ref.{now}
 use lib.ListN.{length}
 use Rattle.base.specs.Said.{gives, done}
 use Rattle.base.proofs.Answers.{learnt}
-use Rattle.table.specs.Dispatch.{dispatch}
 use Rattle.frame.specs.Answer.{responseByValue, responseOf, saidAreas}
 use Rattle.frame.specs.Response.{responseAreas, readResponse}
+use Rattle.frame.specs.Rules.{bookOf}
 use Rattle.frame.proofs.Divisions.{responseEntries, parts-of, walk-read, not-divided, by-value, read-header}
 use Rattle.frame.proofs.Headers.{tag-bytes, code-bytes}
 use borrow.Author.Needs.{needs}
@@ -28,13 +28,13 @@ enum-known-a c = search needs
 
 -- the areas were found, and the entries passed
 found : (c : tie.After-a)
-    → (gives (c .a .given .0 .0) ≡ responseAreas dispatch (c .before .before .before .before .args .cc .0) (now (c .before .before .before .before .args .s)))
+    → (gives (c .a .given .0 .0) ≡ responseAreas (bookOf (c .before .before .before .before .args .rules)) (c .before .before .before .before .args .cc .0) (now (c .before .before .before .before .args .s)))
     × (done (responseEntries (now (c .before .before .before .before .args .s)) (c .a .given .0 .0)) ≡ gives tt)
 unfolding readResponse
 found c = parts-of _ (responseEntries (now (c .before .before .before .before .args .s))) (learnt saidAreas (c .a .given .1) (c .before .before .divide .ensures))
 
 header-there : (c : tie.After-a) → 10 ≤ length (now (c .before .before .before .before .args .s))
-header-there c = read-header dispatch _ _ (found c .0)
+header-there c = read-header _ _ _ (found c .0)
 
 shared-slice-read-be16 : tie.Need-shared-slice-read-be16
 shared-slice-read-be16 c = let ten = header-there (c .before .before) in omega arith
@@ -67,14 +67,14 @@ returns : tie.Need-returns
 returns c =
     let start = c .before .before .before .before .before in
     let s = now (start .args .s) in
-    ap (responseByValue s) (not-divided (readResponse dispatch (start .args .cc .0) s) (learnt saidAreas (c .before .e .given .1) (c .before .before .before .divide .ensures)))
+    ap (responseByValue s) (not-divided (readResponse _ (start .args .cc .0) s) (learnt saidAreas (c .before .e .given .1) (c .before .before .before .divide .ensures)))
 
 returns-2 : tie.Need-returns-2
 unfolding readResponse
 returns-2 c =
     let d = c .before .before .before .before .before .before .before .before .before .before in
     let s = now (d .before .before .before .before .args .s) in
-    let read = walk-read (responseAreas dispatch _ s) (responseEntries s) (found d .0) (c .entries .ensures) in
+    let read = walk-read (responseAreas _ _ s) (responseEntries s) (found d .0) (c .entries .ensures) in
     by-value responseOf s _ (read .2) (c .before .before .before .before .before .before .be16 .ensures ∙ tag-bytes s (header-there d)) (c .before .be32 .ensures ∙ code-bytes s (header-there d)) (read .1)
 
 pub parts-spec : {M : Type 1} → statement M

@@ -1,12 +1,11 @@
--- `frame::response::rc` meets its contract: the header is read byte by byte; success reads, and a code that does not read is refused.
+-- `frame::response::rc` meets its contract: the header is read byte by byte, and a code that does not read under its tag is refused.
 -- Assumes nothing.
 use mathlib.Core.Path.{ap, sym, _∙_}
 use denote.Ref.{now}
-use Rattle.base.specs.Said.{refuses, given}
-use Rattle.rc.specs.Code.{saidCode}
+use Rattle.base.specs.Said.{refuses}
 use Rattle.frame.specs.Header.{readRc}
-use Rattle.base.proofs.Answers.{learnt}
-use Rattle.frame.proofs.Headers.{short-header, code-bytes, success-read, rc-read, rc-refused}
+use Rattle.frame.specs.Rules.{bookOf}
+use Rattle.frame.proofs.Headers.{short-header, tag-bytes, code-bytes, rc-read, rc-refused}
 use borrow.Author.Needs.{needs}
 use Rattle.frame.proofs.response.rc.Statement.{statement}
 use Rattle.frame.proofs.response.rc.Tie as tie
@@ -33,35 +32,41 @@ shared-slice-read-be32-4 c = search needs
 be32-requires : tie.Need-be32-requires
 be32-requires c κs = search needs
 
-returns-2 : tie.Need-returns-2
-returns-2 c =
-    let s = now (c .before .before .before .before .before .before .before .before .before .args .s) in
-    let ten = c .before .before .before .before .before .before .before .if1 .left in
-    success-read s _ (c .before .before .be32 .ensures ∙ code-bytes s ten) ten (c .if2 .taken)
+shared-slice-read-be16 : tie.Need-shared-slice-read-be16
+shared-slice-read-be16 c = search needs
 
-read-requires : tie.Need-read-requires
-read-requires c κs = search needs
+shared-slice-read-be16-2 : tie.Need-shared-slice-read-be16-2
+shared-slice-read-be16-2 c = search needs
 
-enum-told : tie.Need-enum-told
-enum-told c = search needs
+be16-requires : tie.Need-be16-requires
+be16-requires c κs = search needs
 
-enum-told-2 : tie.Need-enum-told-2
-enum-told-2 c = search needs
+reads-requires : tie.Need-reads-requires
+reads-requires c κs = search needs
 
 refused-requires : tie.Need-refused-requires
 refused-requires c κs = search needs
 
+returns-2 : tie.Need-returns-2
+returns-2 c =
+    let tagged = c .before .before in
+    let coded = tagged .before .before .before in
+    let start = coded .before .before .before .before .before .before .before in
+    let s = now (start .args .s) in
+    let ten = coded .before .before .before .before .before .if1 .left in
+    rc-read s _ (bookOf (start .args .rules)) _ (coded .be32 .ensures ∙ code-bytes s ten) (tagged .be16 .ensures ∙ tag-bytes s ten) ten
+    (sym (c .before .reads .ensures) ∙ c .if2 .taken)
+
 returns-3 : tie.Need-returns-3
 returns-3 c =
-    let s = now (c .before .before .before .before .before .before .before .before .before .before .before .before .args .s) in
-    let ten = c .before .before .before .before .before .before .before .before .before .before .if1 .left in
-    rc-read s _ (c .before .before .before .before .before .be32 .ensures ∙ code-bytes s ten) ten (ap given (sym (learnt saidCode (c .enum-told .given .1) (c .before .before .read .ensures))))
-
-returns-4 : tie.Need-returns-4
-returns-4 c =
-    let s = now (c .before .before .before .before .before .before .before .before .before .before .before .before .before .args .s) in
-    let ten = c .before .before .before .before .before .before .before .before .before .before .before .if1 .left in
-    ap refuses (c .refused .ensures) ∙ rc-refused s _ (c .before .before .before .before .before .before .be32 .ensures ∙ code-bytes s ten) ten (ap given (sym (learnt saidCode (c .before .enum-told2 .given .1) (c .before .before .before .read .ensures))))
+    let tagged = c .before .before .before in
+    let coded = tagged .before .before .before in
+    let start = coded .before .before .before .before .before .before .before in
+    let s = now (start .args .s) in
+    let ten = coded .before .before .before .before .before .if1 .left in
+    ap refuses (c .refused .ensures)
+    ∙ rc-refused s _ (bookOf (start .args .rules)) _ (coded .be32 .ensures ∙ code-bytes s ten) (tagged .be16 .ensures ∙ tag-bytes s ten) ten
+    (sym (c .before .before .reads .ensures) ∙ c .before .if2 .left)
 
 pub rc-spec : {M : Type 1} → statement M
 rc-spec =
@@ -74,10 +79,10 @@ rc-spec =
     shared-slice-read-be32-3
     shared-slice-read-be32-4
     be32-requires
-    returns-2
-    read-requires
-    enum-told
-    enum-told-2
+    shared-slice-read-be16
+    shared-slice-read-be16-2
+    be16-requires
+    reads-requires
     refused-requires
-    returns-3
-    returns-4)
+    returns-2
+    returns-3)

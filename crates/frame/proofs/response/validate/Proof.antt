@@ -4,7 +4,6 @@ use mathlib.Core.Path.{ap}
 use denote.Ref.{now}
 use Rattle.base.specs.Said.{done}
 use Rattle.base.proofs.Answers.{learnt}
-use Rattle.table.specs.Dispatch.{dispatch}
 use Rattle.frame.specs.Answer.{saidAreas}
 use Rattle.frame.specs.Response.{readResponse}
 use Rattle.frame.proofs.Divisions.{not-divided, was-divided}
@@ -25,13 +24,13 @@ returns : tie.Need-returns
 returns c =
     let start = c .before .before .before .before .before in
     let s = now (start .args .s) in
-    ap done (not-divided (readResponse dispatch (start .args .cc .0) s) (learnt saidAreas (c .before .e .given .1) (c .before .before .before .divide .ensures)))
+    ap done (not-divided (readResponse _ (start .args .cc .0) s) (learnt saidAreas (c .before .e .given .1) (c .before .before .before .divide .ensures)))
 
 returns-2 : tie.Need-returns-2
 returns-2 c =
     let start = c .before .before .before .before in
     let s = now (start .args .s) in
-    was-divided (readResponse dispatch (start .args .cc .0) s) (learnt saidAreas (c .enum-told .given .1) (c .before .before .divide .ensures))
+    was-divided (readResponse _ (start .args .cc .0) s) (learnt saidAreas (c .enum-told .given .1) (c .before .before .divide .ensures))
 
 pub validate-spec : {M : Type 1} → statement M
 validate-spec = tie.close (tie.spec divide-requires enum-known-e enum-told returns returns-2)

@@ -6,7 +6,7 @@ use lib.ListN.{length}
 use denote.Ref.{now}
 use Rattle.base.specs.Said.{refuses}
 use Rattle.base.proofs.Answers.{learnt}
-use Rattle.table.specs.Dispatch.{dispatch}
+use Rattle.frame.specs.Rules.{bookOf}
 use Rattle.table.specs.Table.{saidFound}
 use Rattle.marshal.specs.Handed.{handed}
 use Rattle.marshal.specs.Write.{counted}
@@ -26,7 +26,7 @@ returns : tie.Need-returns
 returns c =
     let a = c .before .before .before .before .before .before .before .before .before .args in
     let h = handed (now (a .handles)) (a .sessions) (now (a .lent)) (now (a .parameters)) in
-    ap refuses (c .too-many .ensures) ∙ ap counted (many-sessions dispatch (a .tag .0) (a .cc .0) h (a .room) (c .before .before .before .if1 .taken ∙ c .before .before .before .before .before .tag-for .ensures) (c .before .if2 .taken))
+    ap refuses (c .too-many .ensures) ∙ ap counted (many-sessions (bookOf (a .rules)) (a .tag .0) (a .cc .0) h (a .room) (c .before .before .before .if1 .taken ∙ c .before .before .before .before .before .tag-for .ensures) (c .before .if2 .taken))
 
 find-requires : tie.Need-find-requires
 find-requires c κs = search needs
@@ -43,7 +43,7 @@ entries-length-requires c κs = search needs
 judge-requires : tie.Need-judge-requires
 judge-requires c κs =
     let a = c .before .before .before .before .before .before .before .before .before .before .before .before .before .args in
-    let good = c .before .before .before .before .before .before .before .before .before .before .before .before .before .good .1 .1 .1 .0 in
+    let good = c .before .before .before .before .before .before .before .before .before .before .before .before .before .good .1 .1 .1 .1 .0 in
     let first = good .1 .1 .1 .0 in
     let second = good .1 .1 .1 .1 .0 in
     let third = good .1 .1 .1 .1 .1 .0 in
@@ -55,14 +55,14 @@ returns-2 : tie.Need-returns-2
 returns-2 c =
     let a = c .before .before .before .before .before .before .before .before .before .before .before .before .args in
     let h = handed (now (a .handles)) (a .sessions) (now (a .lent)) (now (a .parameters)) in
-    ap counted (no-row dispatch (a .tag .0) (a .cc .0) h (a .room) (c .before .before .before .before .before .before .if1 .taken ∙ c .before .before .before .before .before .before .before .before .tag-for .ensures) (c .before .before .before .before .if2 .left) (learnt saidFound (c .before .e .given .1) (c .before .before .before .find .ensures)))
+    ap counted (no-row (bookOf (a .rules)) (a .tag .0) (a .cc .0) h (a .room) (c .before .before .before .before .before .before .if1 .taken ∙ c .before .before .before .before .before .before .before .before .tag-for .ensures) (c .before .before .before .before .if2 .left) (learnt saidFound (c .before .e .given .1) (c .before .before .before .find .ensures)))
 
 returns-3 : tie.Need-returns-3
 returns-3 c =
     let a = c .before .before .before .before .before .before .before .before .before .before .before .before .before .before .args in
     let h = handed (now (a .handles)) (a .sessions) (now (a .lent)) (now (a .parameters)) in
     c .judge .ensures 4 h refl (c .before .entries-length .ensures) refl
-    ∙ command-judged dispatch (a .tag .0) (a .cc .0) h (a .room) (c .before .before .before .before .before .before .before .before .if1 .taken ∙ c .before .before .before .before .before .before .before .before .before .before .tag-for .ensures) (c .before .before .before .before .before .before .if2 .left) (learnt saidFound (c .before .before .before .row .given .1) (c .before .before .before .before .before .find .ensures))
+    ∙ command-judged (bookOf (a .rules)) (a .tag .0) (a .cc .0) h (a .room) (c .before .before .before .before .before .before .before .before .if1 .taken ∙ c .before .before .before .before .before .before .before .before .before .before .tag-for .ensures) (c .before .before .before .before .before .before .if2 .left) (learnt saidFound (c .before .before .before .row .given .1) (c .before .before .before .before .before .find .ensures))
 
 refused-requires : tie.Need-refused-requires
 refused-requires c κs = search needs
@@ -71,7 +71,7 @@ returns-4 : tie.Need-returns-4
 returns-4 c =
     let a = c .before .before .before .before .before .before .before .args in
     let h = handed (now (a .handles)) (a .sessions) (now (a .lent)) (now (a .parameters)) in
-    ap refuses (c .refused .ensures) ∙ ap counted (wrong-tag dispatch (a .tag .0) (a .cc .0) h (a .room) (λ e. c .before .if1 .left (e ∙ sym (c .before .before .before .tag-for .ensures))))
+    ap refuses (c .refused .ensures) ∙ ap counted (wrong-tag (bookOf (a .rules)) (a .tag .0) (a .cc .0) h (a .room) (λ e. c .before .if1 .left (e ∙ sym (c .before .before .before .tag-for .ensures))))
 
 pub judge-command-spec : {M : Type 1} → statement M
 judge-command-spec =

@@ -1,18 +1,18 @@
 -- `marshal::response::judge_response` meets its contract: each return is the case of the definition to which its tests lead.
 -- Assumes nothing.
-use mathlib.Core.Path.{refl, _∙_, ap}
+use mathlib.Core.Path.{refl, sym, _∙_, ap}
 use mathlib.Core.Bool.{false}
 use lib.ListN.{length}
 use Prim.Native.Nat.{ℕ}
 use denote.Ref.{now}
 use Rattle.base.specs.Said.{refuses}
 use Rattle.base.proofs.Answers.{learnt}
-use Rattle.table.specs.Dispatch.{dispatch}
 use Rattle.table.specs.Table.{saidFound}
 use Rattle.marshal.specs.Handed.{handed}
+use Rattle.marshal.specs.Mode.{asked, bookFor}
 use Rattle.marshal.specs.Write.{counted, judged}
 use Rattle.marshal.proofs.Judgements.{entries-bound}
-use Rattle.marshal.proofs.Writers.{many-entries, no-command, success-judged, error-judged}
+use Rattle.marshal.proofs.Writers.{many-entries, no-command, success-judged, error-judged, bad-tag-judged}
 use borrow.Author.Needs.{needs}
 use Rattle.marshal.proofs.response.judge_response.Statement.{statement}
 use Rattle.marshal.proofs.response.judge_response.Tie as tie
@@ -24,7 +24,7 @@ returns : tie.Need-returns
 returns c =
     let a = c .before .before .before .before .before .before .args in
     let h = handed (now (a .handles)) (a .sessions) (now (a .lent)) (now (a .parameters)) in
-    ap refuses (c .too-many .ensures) ∙ ap counted (many-entries dispatch (a .cc .0) (a .rc .0) h (a .room) (c .before .if1 .taken))
+    ap refuses (c .too-many .ensures) ∙ ap counted (many-entries (bookFor (a .rules)) (asked (a .rules)) (a .cc .0) (a .rc .0) h (a .room) (c .before .if1 .taken))
 
 find-requires : tie.Need-find-requires
 find-requires c κs = search needs
@@ -35,6 +35,19 @@ enum-known-e c = search needs
 enum-known-row : tie.Need-enum-known-row
 enum-known-row c = search needs
 
+asks-bad-tag-requires : tie.Need-asks-bad-tag-requires
+asks-bad-tag-requires c κs = search needs
+
+judge-bad-tag-requires : tie.Need-judge-bad-tag-requires
+judge-bad-tag-requires c κs = search needs
+
+returns-2 : tie.Need-returns-2
+returns-2 c =
+    let a = c .before .before .before .before .before .before .before .before .before .before .before .before .args in
+    let h = handed (now (a .handles)) (a .sessions) (now (a .lent)) (now (a .parameters)) in
+    c .judge-bad-tag .ensures
+    ∙ bad-tag-judged (bookFor (a .rules)) (asked (a .rules)) (a .cc .0) (a .rc .0) h (a .room) (c .before .before .before .before .before .before .before .if1 .left) (learnt saidFound (c .before .before .before .before .row .given .1) (c .before .before .before .before .before .before .find .ensures)) (sym (c .before .before .asks-bad-tag .ensures) ∙ c .before .if2 .taken)
+
 tag-for-requires : tie.Need-tag-for-requires
 tag-for-requires c κs = search needs
 
@@ -43,8 +56,9 @@ entries-length-requires c κs = search needs
 
 judge-requires : tie.Need-judge-requires
 judge-requires c κs =
-    let a = c .before .before .before .before .before .before .before .before .before .before .before .before .before .args in
-    let good = c .before .before .before .before .before .before .before .before .before .before .before .before .before .good .1 .1 .1 .0 in
+    let start = c .before .before .before .before .before .before .before .before .before .before .before .before .before .before .before in
+    let a = start .args in
+    let good = start .good .1 .1 .1 .1 .0 in
     let first = good .1 .1 .1 .0 in
     let second = good .1 .1 .1 .1 .0 in
     let third = good .1 .1 .1 .1 .1 .0 in
@@ -52,28 +66,29 @@ judge-requires c κs =
     (second .1 .1 .1 .0 .1 .1 .1 .0 .1, second .1 .1 .1 .1 .1 .0 .1 .1 .1 .0 .1) (third .1 .1 .1 .0 .1 .1 .1 .0 .1, third .1 .1 .1 .1 .1 .0 .1 .1 .1 .0 .1)
     (c .entries-length .ensures)
 
-returns-2 : tie.Need-returns-2
-returns-2 c =
-    let a = c .before .before .before .before .before .before .before .before .before .before .before .before .before .before .args in
+returns-3 : tie.Need-returns-3
+returns-3 c =
+    let a = c .before .before .before .before .before .before .before .before .before .before .before .before .before .before .before .before .args in
     let h = handed (now (a .handles)) (a .sessions) (now (a .lent)) (now (a .parameters)) in
     c .judge .ensures 0 h refl (c .before .entries-length .ensures) refl
-    ∙ ap (λ (tag : ℕ). judged 0 tag (c .before .before .before .before .before .before .row .given .0 .0 .responses) h (a .room)) (c .before .before .tag-for .ensures)
-    ∙ success-judged dispatch (a .cc .0) (a .rc .0) h (a .room) (c .before .before .before .before .before .before .before .before .before .if1 .left) (learnt saidFound (c .before .before .before .before .before .before .row .given .1) (c .before .before .before .before .before .before .before .before .find .ensures)) (c .before .before .before .if2 .taken)
+    ∙ ap (λ (tag : ℕ). judged 0 tag (c .before .before .before .before .before .before .before .before .row .given .0 .0 .responses) h (a .room)) (c .before .before .tag-for .ensures)
+    ∙ success-judged (bookFor (a .rules)) (asked (a .rules)) (a .cc .0) (a .rc .0) h (a .room) (c .before .before .before .before .before .before .before .before .before .before .before .if1 .left) (learnt saidFound (c .before .before .before .before .before .before .before .before .row .given .1) (c .before .before .before .before .before .before .before .before .before .before .find .ensures)) (sym (c .before .before .before .before .before .before .asks-bad-tag .ensures) ∙ c .before .before .before .before .before .if2 .left) (c .before .before .before .if3 .taken)
 
 judge-error-requires : tie.Need-judge-error-requires
 judge-error-requires c κs = search needs
 
-returns-3 : tie.Need-returns-3
-returns-3 c =
-    let a = c .before .before .before .before .before .before .before .before .before .args in
-    let h = handed (now (a .handles)) (a .sessions) (now (a .lent)) (now (a .parameters)) in
-    ap counted (no-command dispatch (a .cc .0) (a .rc .0) h (a .room) (c .before .before .before .before .if1 .left) (learnt saidFound (c .before .e .given .1) (c .before .before .before .find .ensures)))
-
 returns-4 : tie.Need-returns-4
 returns-4 c =
-    let a = c .before .before .before .before .before .before .before .before .before .before .before .before .args in
+    let a = c .before .before .before .before .before .before .before .before .before .args in
     let h = handed (now (a .handles)) (a .sessions) (now (a .lent)) (now (a .parameters)) in
-    c .judge-error .ensures ∙ error-judged dispatch (a .cc .0) (a .rc .0) h (a .room) (c .before .before .before .before .before .before .before .if1 .left) (learnt saidFound (c .before .before .before .before .row .given .1) (c .before .before .before .before .before .before .find .ensures)) (c .before .if2 .left)
+    ap counted (no-command (bookFor (a .rules)) (asked (a .rules)) (a .cc .0) (a .rc .0) h (a .room) (c .before .before .before .before .if1 .left) (learnt saidFound (c .before .e .given .1) (c .before .before .before .find .ensures)))
+
+returns-5 : tie.Need-returns-5
+returns-5 c =
+    let a = c .before .before .before .before .before .before .before .before .before .before .before .before .before .before .args in
+    let h = handed (now (a .handles)) (a .sessions) (now (a .lent)) (now (a .parameters)) in
+    c .judge-error .ensures
+    ∙ error-judged (bookFor (a .rules)) (asked (a .rules)) (a .cc .0) (a .rc .0) h (a .room) (c .before .before .before .before .before .before .before .before .before .if1 .left) (learnt saidFound (c .before .before .before .before .before .before .row .given .1) (c .before .before .before .before .before .before .before .before .find .ensures)) (sym (c .before .before .before .before .asks-bad-tag .ensures) ∙ c .before .before .before .if2 .left) (c .before .if3 .left)
 
 pub judge-response-spec : {M : Type 1} → statement M
 judge-response-spec =
@@ -84,10 +99,13 @@ judge-response-spec =
     find-requires
     enum-known-e
     enum-known-row
+    asks-bad-tag-requires
+    judge-bad-tag-requires
+    returns-2
     tag-for-requires
     entries-length-requires
     judge-requires
-    returns-2
-    judge-error-requires
     returns-3
-    returns-4)
+    judge-error-requires
+    returns-4
+    returns-5)

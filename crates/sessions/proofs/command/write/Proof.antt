@@ -8,9 +8,11 @@ use denote.Triple.Table.{entered, cited}
 use Rattle.base.specs.Said.{Said}
 use Rattle.base.specs.declared.code.TpmCc.{TpmCc}
 use Rattle.base.specs.declared.code.TpmSt.{TpmSt}
-use Rattle.table.specs.Dispatch.{dispatch}
+use Rattle.frame.specs.Rules.{bookOf}
+use Rattle.frame.specs.declared.rules.Rules.{Rules}
 use Rattle.marshal.specs.Handed.{Handed}
 use Rattle.marshal.specs.Write.{writeCommand}
+use Rattle.frame.proofs.RulesByValue as by-value
 use Rattle.marshal.proofs.command.write.Symbol as core-def
 use Rattle.marshal.proofs.command.write.Symbol.{name as #core}
 use Rattle.marshal.proofs.command.write.Met as core-thm
@@ -24,14 +26,14 @@ use Rattle.sessions.proofs.command.write as f
 use Rattle.sessions.proofs.command.write.Statement as stated
 use Rattle.sessions.proofs.command.write.Code as code
 
-abbrev written : TpmSt → TpmCc → Handed → ℕ → Said (List ℕ)
-written tag cc h room = writeCommand dispatch (tag .0) (cc .0) h room
+abbrev written : Rules → TpmSt → TpmCc → Handed → ℕ → Said (List ℕ)
+written rules tag cc h room = writeCommand (bookOf rules) (tag .0) (cc .0) h room
 
 pub write-spec : {M : Type 1} → stated.statement M
 unfolding code.routine tablesOf
 write-spec 𝓤 H 𝓜 𝓖 𝓡 =
     entered 𝓤 H (tripleOf 𝓤 H (𝓖 .A) f.signature (f.spec 𝓤 H (𝓖 .A) (𝓜 .mem) (𝓡 .run)))
     (tables 𝓤 H 𝓜 𝓡 code.env .C) (tables 𝓤 H 𝓜 𝓡 code.env .Λ) #this code.function (code.unfolded 𝓤 H 𝓜 𝓡)
-    (writes-by numbers.tag #core written 𝓤 H (𝓖 .A) (givenOf 𝓤 H 𝓜 𝓖) (𝓜 .mem) (𝓡 .run) (tablesOf 𝓤 H 𝓜 (tables 𝓤 H 𝓜 𝓡 code.env))
+    (writes-by by-value.rules numbers.tag #core written 𝓤 H (𝓖 .A) (givenOf 𝓤 H 𝓜 𝓖) (𝓜 .mem) (𝓡 .run) (tablesOf 𝓤 H 𝓜 (tables 𝓤 H 𝓜 𝓡 code.env))
     (cited 𝓤 H (Three 𝓤 H (𝓖 .A) (𝓜 .mem) (𝓡 .run)) 𝓜 𝓡 code.env #three three-def.routine code.calls-sessions·records·first-three (three-thm.met 𝓤 H 𝓜 𝓖 𝓡))
-    (cited 𝓤 H (Core numbers.tag #core written 𝓤 H (𝓖 .A)) 𝓜 𝓡 code.env #core core-def.routine code.calls-marshal·command·write (core-thm.met 𝓤 H 𝓜 𝓖 𝓡)))
+    (cited 𝓤 H (Core by-value.rules numbers.tag #core written 𝓤 H (𝓖 .A)) 𝓜 𝓡 code.env #core core-def.routine code.calls-marshal·command·write (core-thm.met 𝓤 H 𝓜 𝓖 𝓡)))

@@ -4,19 +4,21 @@ use mir.Syntax.{named, imm, w8, tyInt, tyRef}
 use contract.Running.{givenOf, tables, tablesOf}
 use denote.Builtin.{u8}
 use denote.Ref.{now}
-use denote.Slice.{ShrSlice, sliceTy, shr-slice-lawful}
+use denote.Slice.{sliceTy, shr-slice-lawful}
 use denote.Triple.Spec.{tripleOf}
 use denote.Triple.Table.{entered, cited}
 use Rattle.base.specs.Parts.{IsPart}
-use Rattle.table.specs.Dispatch.{dispatch, commandCodes}
 use Rattle.frame.specs.Command.{parametersRange}
+use Rattle.frame.specs.Rules.{bookOf}
+use Rattle.view.proofs.Holding.{Bytes}
+use Rattle.view.proofs.Holders.{rules, command}
 use Rattle.view.proofs.command.TpmCommand.cast.Symbol as cast-def
 use Rattle.view.proofs.command.TpmCommand.cast.Symbol.{name as #cast}
 use Rattle.view.proofs.command.TpmCommand.cast.Met as cast-thm
 use Rattle.view.proofs.command.TpmCommand.parameters.Symbol as method-def
 use Rattle.view.proofs.command.TpmCommand.parameters.Symbol.{name as #method}
 use Rattle.view.proofs.command.TpmCommand.parameters.Met as method-thm
-use Rattle.worked.proofs.Asking.{Cast, Method, asks}
+use Rattle.worked.proofs.Asking.{for-command, command-made, Cast, Method, asks}
 use Rattle.worked.proofs.views.command_parameters.Key.{name as #this}
 use Rattle.worked.proofs.views.command_parameters as f
 use Rattle.worked.proofs.views.command_parameters.Statement as stated
@@ -27,7 +29,7 @@ unfolding code.routine tablesOf
 command-parameters-spec 𝓤 H 𝓜 𝓖 𝓡 =
     entered 𝓤 H (tripleOf 𝓤 H (𝓖 .A) f.signature (f.spec 𝓤 H (𝓖 .A) (𝓜 .mem) (𝓡 .run)))
     (tables 𝓤 H 𝓜 𝓡 code.env .C) (tables 𝓤 H 𝓜 𝓡 code.env .Λ) #this code.function (code.unfolded 𝓤 H 𝓜 𝓡)
-    (asks (λ κs. ShrSlice (named 0) (κs .0) u8) (sliceTy (tyRef (named 0) imm (tyInt w8))) #method (λ κs s r. IsPart (parametersRange dispatch commandCodes (now s)) s r) 𝓤 H (𝓖 .A) (givenOf 𝓤 H 𝓜 𝓖) (𝓜 .mem) (𝓡 .run)
+    (asks command (rules .by) #cast command-made Bytes (sliceTy (tyRef (named 0) imm (tyInt w8))) #method (λ κs d r. IsPart (parametersRange (bookOf (d .rules)) (now (d .frame))) (d .frame) r) 𝓤 H (𝓖 .A) (givenOf 𝓤 H 𝓜 𝓖)
     (λ κs r u is. shr-slice-lawful 𝓤 H (𝓖 .A) (givenOf 𝓤 H 𝓜 𝓖) (named 0) (κs .0) u8 .typed r _ is .0) (tablesOf 𝓤 H 𝓜 (tables 𝓤 H 𝓜 𝓡 code.env))
-    (cited 𝓤 H (Cast 𝓤 H (𝓖 .A) (𝓜 .mem) (𝓡 .run)) 𝓜 𝓡 code.env #cast cast-def.routine code.calls-view·command·TpmCommand·cast (cast-thm.met 𝓤 H 𝓜 𝓖 𝓡))
-    (cited 𝓤 H (Method (λ κs. ShrSlice (named 0) (κs .0) u8) (sliceTy (tyRef (named 0) imm (tyInt w8))) #method (λ κs s r. IsPart (parametersRange dispatch commandCodes (now s)) s r) 𝓤 H (𝓖 .A)) 𝓜 𝓡 code.env #method method-def.routine code.calls-view·command·TpmCommand·parameters (method-thm.met 𝓤 H 𝓜 𝓖 𝓡)))
+    (cited 𝓤 H (Cast command for-command command-made 𝓤 H (𝓖 .A)) 𝓜 𝓡 code.env #cast cast-def.routine code.calls-view·command·TpmCommand·cast (cast-thm.met 𝓤 H 𝓜 𝓖 𝓡))
+    (cited 𝓤 H (Method command Bytes (λ κs d r. IsPart (parametersRange (bookOf (d .rules)) (now (d .frame))) (d .frame) r) 𝓤 H (𝓖 .A)) 𝓜 𝓡 code.env #method method-def.routine code.calls-view·command·TpmCommand·parameters (method-thm.met 𝓤 H 𝓜 𝓖 𝓡)))

@@ -8,17 +8,19 @@ use denote.Triple.Spec.{tripleOf}
 use denote.Triple.Table.{entered, cited}
 use Rattle.base.specs.Answer.{saidOutcome}
 use Rattle.base.specs.Said.{done}
-use Rattle.table.specs.Dispatch.{dispatch}
 use Rattle.frame.specs.Response.{readResponse}
+use Rattle.frame.specs.Rules.{bookOf}
 use Rattle.base.proofs.answer.Outcome as O
 use Rattle.base.proofs.answer.Outcome.Laws as O′
+use Rattle.view.proofs.Holders.{rules, code as the-code, response}
 use Rattle.view.proofs.response.TpmResponse.cast.Symbol as cast-def
 use Rattle.view.proofs.response.TpmResponse.cast.Symbol.{name as #cast}
 use Rattle.view.proofs.response.TpmResponse.cast.Met as cast-thm
 use Rattle.view.proofs.response.TpmResponse.validate.Symbol as method-def
 use Rattle.view.proofs.response.TpmResponse.validate.Symbol.{name as #method}
 use Rattle.view.proofs.response.TpmResponse.validate.Met as method-thm
-use Rattle.worked.proofs.AskingBy.{Cast, Method, asks-by}
+use Rattle.worked.proofs.Asking.{for-response, response-made, Cast, Method}
+use Rattle.worked.proofs.AskingBy.{asks-by}
 use Rattle.worked.proofs.views.response_validate.Key.{name as #this}
 use Rattle.worked.proofs.views.response_validate as f
 use Rattle.worked.proofs.views.response_validate.Statement as stated
@@ -29,7 +31,7 @@ unfolding code.routine tablesOf
 response-validate-spec 𝓤 H 𝓜 𝓖 𝓡 =
     entered 𝓤 H (tripleOf 𝓤 H (𝓖 .A) f.signature (f.spec 𝓤 H (𝓖 .A) (𝓜 .mem) (𝓡 .run)))
     (tables 𝓤 H 𝓜 𝓡 code.env .C) (tables 𝓤 H 𝓜 𝓡 code.env .Λ) #this code.function (code.unfolded 𝓤 H 𝓜 𝓡)
-    (asks-by (λ _. O.the-row) O′.mir #method (λ κs d r. saidOutcome r ≡ done (readResponse dispatch (d .cc .0) (now (d .frame)))) 𝓤 H (𝓖 .A) (givenOf 𝓤 H 𝓜 𝓖) (𝓜 .mem) (𝓡 .run)
+    (asks-by response (rules .by) (the-code .by) #cast response-made (λ _. O.the-row) O′.mir #method (λ κs d r. saidOutcome r ≡ done (readResponse (bookOf (d .rules)) (d .cc .0) (now (d .frame)))) 𝓤 H (𝓖 .A) (givenOf 𝓤 H 𝓜 𝓖)
     (λ κs r u is. EL.lawful O.the-type O′.the-laws 𝓤 H (𝓖 .A) (givenOf 𝓤 H 𝓜 𝓖) tt .typed r _ is .0) (tablesOf 𝓤 H 𝓜 (tables 𝓤 H 𝓜 𝓡 code.env))
-    (cited 𝓤 H (Cast 𝓤 H (𝓖 .A) (𝓜 .mem) (𝓡 .run)) 𝓜 𝓡 code.env #cast cast-def.routine code.calls-view·response·TpmResponse·cast (cast-thm.met 𝓤 H 𝓜 𝓖 𝓡))
-    (cited 𝓤 H (Method (λ _. O.the-row) O′.mir #method (λ κs d r. saidOutcome r ≡ done (readResponse dispatch (d .cc .0) (now (d .frame)))) 𝓤 H (𝓖 .A)) 𝓜 𝓡 code.env #method method-def.routine code.calls-view·response·TpmResponse·validate (method-thm.met 𝓤 H 𝓜 𝓖 𝓡)))
+    (cited 𝓤 H (Cast response for-response response-made 𝓤 H (𝓖 .A)) 𝓜 𝓡 code.env #cast cast-def.routine code.calls-view·response·TpmResponse·cast (cast-thm.met 𝓤 H 𝓜 𝓖 𝓡))
+    (cited 𝓤 H (Method response (λ _. O.the-row) (λ κs d r. saidOutcome r ≡ done (readResponse (bookOf (d .rules)) (d .cc .0) (now (d .frame)))) 𝓤 H (𝓖 .A)) 𝓜 𝓡 code.env #method method-def.routine code.calls-view·response·TpmResponse·validate (method-thm.met 𝓤 H 𝓜 𝓖 𝓡)))

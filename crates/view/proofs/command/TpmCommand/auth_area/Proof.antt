@@ -1,4 +1,4 @@
--- `view::command::TpmCommand::auth_area` meets its contract: a thin method over `frame::command::auth_area` (Thin.antt).
+-- `view::command::TpmCommand::auth_area` meets its contract: a thin method over `frame::command::auth_area` that passes the rules too (ThinBy.antt).
 -- Assumes nothing.
 use mir.Syntax.{named, imm, w8, tyInt, tyRef}
 use contract.Running.{givenOf, tables, tablesOf}
@@ -8,13 +8,13 @@ use denote.Slice.{ShrSlice, sliceTy, shr-slice-lawful}
 use denote.Triple.Spec.{tripleOf}
 use denote.Triple.Table.{entered, cited}
 use Rattle.base.specs.Parts.{IsPart}
-use Rattle.table.specs.Dispatch.{dispatch, commandCodes}
 use Rattle.frame.specs.Command.{authRange}
+use Rattle.frame.specs.Rules.{bookOf}
 use Rattle.frame.proofs.command.auth_area.Symbol as callee-def
 use Rattle.frame.proofs.command.auth_area.Symbol.{name as #callee}
 use Rattle.frame.proofs.command.auth_area.Met as callee-thm
 use Rattle.view.proofs.Holders.{command}
-use Rattle.view.proofs.Thin.{Callee, thin}
+use Rattle.view.proofs.ThinBy.{Callee, thin-by}
 use Rattle.view.proofs.command.TpmCommand.auth_area.Key.{name as #this}
 use Rattle.view.proofs.command.TpmCommand.auth_area as f
 use Rattle.view.proofs.command.TpmCommand.auth_area.Statement as stated
@@ -25,6 +25,6 @@ unfolding code.routine tablesOf
 auth-area-spec 𝓤 H 𝓜 𝓖 𝓡 =
     entered 𝓤 H (tripleOf 𝓤 H (𝓖 .A) f.signature (f.spec 𝓤 H (𝓖 .A) (𝓜 .mem) (𝓡 .run)))
     (tables 𝓤 H 𝓜 𝓡 code.env .C) (tables 𝓤 H 𝓜 𝓡 code.env .Λ) #this code.function (code.unfolded 𝓤 H 𝓜 𝓡)
-    (thin command (λ κs. ShrSlice (named 0) (κs .0) u8) (sliceTy (tyRef (named 0) imm (tyInt w8))) #callee (λ κs s r. IsPart (authRange dispatch commandCodes (now s)) s r) 𝓤 H (𝓖 .A) (givenOf 𝓤 H 𝓜 𝓖)
+    (thin-by command (λ κs. ShrSlice (named 0) (κs .0) u8) (sliceTy (tyRef (named 0) imm (tyInt w8))) #callee (λ κs rules s r. IsPart (authRange (bookOf rules) (now s)) s r) 𝓤 H (𝓖 .A) (givenOf 𝓤 H 𝓜 𝓖)
     (λ κs r u is. shr-slice-lawful 𝓤 H (𝓖 .A) (givenOf 𝓤 H 𝓜 𝓖) (named 0) (κs .0) u8 .typed r _ is .0) (tablesOf 𝓤 H 𝓜 (tables 𝓤 H 𝓜 𝓡 code.env))
-    (cited 𝓤 H (Callee command (λ κs. ShrSlice (named 0) (κs .0) u8) (sliceTy (tyRef (named 0) imm (tyInt w8))) #callee (λ κs s r. IsPart (authRange dispatch commandCodes (now s)) s r) 𝓤 H (𝓖 .A)) 𝓜 𝓡 code.env #callee callee-def.routine code.calls-frame·command·auth-area (callee-thm.met 𝓤 H 𝓜 𝓖 𝓡)))
+    (cited 𝓤 H (Callee command (λ κs. ShrSlice (named 0) (κs .0) u8) (sliceTy (tyRef (named 0) imm (tyInt w8))) #callee (λ κs rules s r. IsPart (authRange (bookOf rules) (now s)) s r) 𝓤 H (𝓖 .A)) 𝓜 𝓡 code.env #callee callee-def.routine code.calls-frame·command·auth-area (callee-thm.met 𝓤 H 𝓜 𝓖 𝓡)))

@@ -1,4 +1,4 @@
--- `view::command::TpmCommand::validate` meets its contract: a thin method over `frame::command::validate` (Thin.antt).
+-- `view::command::TpmCommand::validate` meets its contract: a thin method over `frame::command::validate` that passes the rules too (ThinBy.antt).
 -- Assumes nothing.
 use mathlib.Core.Path.{_≡_}
 use contract.Running.{givenOf, tables, tablesOf}
@@ -8,15 +8,15 @@ use denote.Triple.Spec.{tripleOf}
 use denote.Triple.Table.{entered, cited}
 use Rattle.base.specs.Answer.{saidOutcome}
 use Rattle.base.specs.Said.{done}
-use Rattle.table.specs.Dispatch.{dispatch, commandCodes}
 use Rattle.frame.specs.Command.{readCommand}
+use Rattle.frame.specs.Rules.{bookOf}
 use Rattle.base.proofs.answer.Outcome as Outcome
 use Rattle.base.proofs.answer.Outcome.Laws as Outcome′
 use Rattle.frame.proofs.command.validate.Symbol as callee-def
 use Rattle.frame.proofs.command.validate.Symbol.{name as #callee}
 use Rattle.frame.proofs.command.validate.Met as callee-thm
 use Rattle.view.proofs.Holders.{command}
-use Rattle.view.proofs.Thin.{Callee, thin}
+use Rattle.view.proofs.ThinBy.{Callee, thin-by}
 use Rattle.view.proofs.command.TpmCommand.validate.Key.{name as #this}
 use Rattle.view.proofs.command.TpmCommand.validate as f
 use Rattle.view.proofs.command.TpmCommand.validate.Statement as stated
@@ -27,6 +27,6 @@ unfolding code.routine tablesOf
 validate-spec 𝓤 H 𝓜 𝓖 𝓡 =
     entered 𝓤 H (tripleOf 𝓤 H (𝓖 .A) f.signature (f.spec 𝓤 H (𝓖 .A) (𝓜 .mem) (𝓡 .run)))
     (tables 𝓤 H 𝓜 𝓡 code.env .C) (tables 𝓤 H 𝓜 𝓡 code.env .Λ) #this code.function (code.unfolded 𝓤 H 𝓜 𝓡)
-    (thin command (λ _. Outcome.the-row) Outcome′.mir #callee (λ κs s r. saidOutcome r ≡ done (readCommand dispatch commandCodes (now s))) 𝓤 H (𝓖 .A) (givenOf 𝓤 H 𝓜 𝓖)
+    (thin-by command (λ _. Outcome.the-row) Outcome′.mir #callee (λ κs rules s r. saidOutcome r ≡ done (readCommand (bookOf rules) (now s))) 𝓤 H (𝓖 .A) (givenOf 𝓤 H 𝓜 𝓖)
     (λ κs r u is. EL.lawful Outcome.the-type Outcome′.the-laws 𝓤 H (𝓖 .A) (givenOf 𝓤 H 𝓜 𝓖) tt .typed r _ is .0) (tablesOf 𝓤 H 𝓜 (tables 𝓤 H 𝓜 𝓡 code.env))
-    (cited 𝓤 H (Callee command (λ _. Outcome.the-row) Outcome′.mir #callee (λ κs s r. saidOutcome r ≡ done (readCommand dispatch commandCodes (now s))) 𝓤 H (𝓖 .A)) 𝓜 𝓡 code.env #callee callee-def.routine code.calls-frame·command·validate (callee-thm.met 𝓤 H 𝓜 𝓖 𝓡)))
+    (cited 𝓤 H (Callee command (λ _. Outcome.the-row) Outcome′.mir #callee (λ κs rules s r. saidOutcome r ≡ done (readCommand (bookOf rules) (now s))) 𝓤 H (𝓖 .A)) 𝓜 𝓡 code.env #callee callee-def.routine code.calls-frame·command·validate (callee-thm.met 𝓤 H 𝓜 𝓖 𝓡)))

@@ -1,0 +1,119 @@
+//! The rules by which frames are judged and written.
+
+use crate::calls;
+use crate::st::TpmSt;
+
+/// The rules by which a frame is judged: every call that judges one takes them first.
+///
+/// Name [`Rules::STANDARD`], or [`Rules::RUST`] to answer as software that runs tpm2-protocol does.
+///
+/// ```
+/// use skeinloft::{Reading, Refusal, Rules, TpmResponse};
+///
+/// // what a TPM answers to a command whose tag it does not understand
+/// let answer = [0x00, 0xC4, 0, 0, 0, 10, 0, 0, 0, 0x1E];
+/// assert!(TpmResponse::cast(Rules::STANDARD, &answer).is_ok());
+///
+/// let refusal = TpmResponse::cast(Rules { reading: Reading::Rust }, &answer).unwrap_err();
+/// assert_eq!(refusal, Refusal::InvalidTag { offset: 0, value: 0x00C4 });
+/// ```
+#[derive(Clone, Copy, Debug, Default, PartialEq, Eq, Hash)]
+pub struct Rules {
+    /// How a frame is read.
+    pub reading: Reading,
+}
+
+impl Rules {
+    /// The rules of the standard reading, which are the default.
+    ///
+    /// ```
+    /// use skeinloft::{Reading, Rules};
+    ///
+    /// assert_eq!(Rules::STANDARD, Rules { reading: Reading::Standard });
+    /// assert_eq!(Rules::STANDARD, Rules::default());
+    /// ```
+    pub const STANDARD: Self = Self { reading: Reading::Standard };
+
+    /// The rules of the Rust's reading.
+    ///
+    /// ```
+    /// use skeinloft::{Reading, Rules};
+    ///
+    /// assert_eq!(Rules::RUST, Rules { reading: Reading::Rust });
+    /// ```
+    pub const RUST: Self = Self { reading: Reading::Rust };
+
+    /// As the calls take them.
+    pub(crate) const fn number(self) -> u32 {
+        match self.reading {
+            Reading::Rust => calls::RUST,
+            Reading::Standard => calls::STANDARD,
+        }
+    }
+}
+
+/// How a frame is read. The readings differ in responses under the tag [`TpmSt::RspCommand`]; commands are read alike.
+///
+/// ```
+/// use skeinloft::{Reading, Rules, TpmCommand};
+///
+/// let bytes = [0x80, 0x01, 0, 0, 0, 10, 0, 0, 0x01, 0x7C];
+/// for reading in [Reading::Rust, Reading::Standard] {
+///     assert!(TpmCommand::cast(Rules { reading }, &bytes).is_ok());
+/// }
+/// ```
+#[derive(Clone, Copy, Debug, Default, PartialEq, Eq, Hash)]
+pub enum Reading {
+    /// As tpm2-protocol reads: no frame has that tag.
+    Rust,
+    /// As the Library has it: the answer to a bad tag passes, which is that tag and the code `TPM_RC_BAD_TAG` in ten bytes.
+    #[default]
+    Standard,
+}
+
+/// How a response is written. That the Rust's mode writes the answer to a bad tag cannot be asked for.
+///
+/// ```
+/// use skeinloft::{ResponseMode, ResponseParts, Sessions, TpmCc, TpmRc, TpmRcBase};
+///
+/// let bad_tag = ResponseParts {
+///     mode: ResponseMode::BadTag,
+///     rc: TpmRc::Fmt0(TpmRcBase::BadTag),
+///     handles: &[],
+///     sessions: Sessions::default(),
+///     parameters: &[],
+/// };
+/// let mut room = [0; 10];
+/// bad_tag.marshal(TpmCc::Startup, &mut room)?;
+/// assert_eq!(room, [0x00, 0xC4, 0, 0, 0, 10, 0, 0, 0, 0x1E]);
+/// # Ok::<(), skeinloft::Refusal>(())
+/// ```
+#[derive(Clone, Copy, Debug, PartialEq, Eq, Hash)]
+pub enum ResponseMode {
+    /// As tpm2-protocol writes.
+    Rust,
+    /// By the standard rules, under the tag that the sessions choose.
+    Standard,
+    /// By the standard rules, under [`TpmSt::RspCommand`], which goes with `TPM_RC_BAD_TAG` alone.
+    BadTag,
+}
+
+impl ResponseMode {
+    /// The mode that writes what was read by these rules under a tag.
+    pub(crate) const fn again(rules: Rules, tag: TpmSt) -> Self {
+        match (rules.reading, tag) {
+            (Reading::Rust, _) => Self::Rust,
+            (Reading::Standard, TpmSt::RspCommand) => Self::BadTag,
+            (Reading::Standard, _) => Self::Standard,
+        }
+    }
+
+    /// As the calls take it.
+    pub(crate) const fn number(self) -> u32 {
+        match self {
+            Self::Rust => calls::RUST,
+            Self::Standard => calls::STANDARD,
+            Self::BadTag => calls::STANDARD_BAD_TAG,
+        }
+    }
+}

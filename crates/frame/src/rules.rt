@@ -1,0 +1,25 @@
+// By which rules a frame is judged.
+ghost use mathlib.Core.Path.{_≡_};
+ghost use Rattle.frame.specs.Rules.{bookOf};
+
+// The Rust's reading, or the standard one, which knows the answer to a bad tag.
+pub enum Reading {
+    Rust,
+    Standard,
+}
+
+// Every call that judges a frame takes one.
+pub struct Rules {
+    pub reading: Reading,
+}
+
+// Whether the answer to a bad tag is a response.
+pub(crate) fn knows_bad_tag(rules: Rules) -> bool
+    ensures { λ r. ⌜ r ≡ bookOf rules .answersBadTag ⌝ }
+{
+    let reading = rules.reading;
+    match reading {
+        Reading::Rust => false,
+        Reading::Standard => true,
+    }
+}

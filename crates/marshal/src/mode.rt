@@ -1,0 +1,25 @@
+// How a response is written: in the Rust's mode, or in the standard one, and there with the tag of the answer to a bad tag asked
+// for or not. The Rust's mode cannot be asked for that tag.
+ghost use mathlib.Core.Path.{_≡_};
+ghost use Rattle.marshal.specs.Mode.{asked};
+
+pub enum Mode {
+    Rust,
+    Standard,
+    BadTag,
+}
+
+pub struct ResponseRules {
+    pub mode: Mode,
+}
+
+pub(crate) fn asks_bad_tag(rules: ResponseRules) -> bool
+    ensures { λ r. ⌜ r ≡ asked rules ⌝ }
+{
+    let mode = rules.mode;
+    match mode {
+        Mode::Rust => false,
+        Mode::Standard => false,
+        Mode::BadTag => true,
+    }
+}
