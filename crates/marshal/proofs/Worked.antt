@@ -3,9 +3,9 @@
 -- Assumes nothing.
 use mathlib.Core.Path.{_≡_, refl}
 use mathlib.Core.List.{List, [], _∷_}
-use mathlib.Core.Bool.{true, false}
 use Prim.Native.Nat.{ℕ}
 use lib.Dec.{eqb}
+use mathlib.Core.Bool.{cond}
 use Rattle.base.specs.Bytes.{bytes, number}
 use Rattle.base.specs.Said.{Said, gives, refuses, then}
 use Rattle.rc.specs.Code.{readIndex, readFmt1, readFmt0, readCode}
@@ -40,6 +40,10 @@ use Rattle.frame.proofs.Worked.{
   cutEntry,
 }
 use Rattle.marshal.specs.Handed.{Handed, handed}
+use Rattle.marshal.specs.Mode.{asked, bookFor}
+use Rattle.marshal.specs.declared.mode.Mode.{Mode}
+use Rattle.marshal.specs.declared.mode.Mode.the-variants as mode
+use Rattle.marshal.specs.declared.mode.ResponseRules.{ResponseRules}
 use Rattle.marshal.specs.Write.{sessionsThere, judged, writeCommand, writeSuccess, writeError, writeBadTag, writeResponse}
 use Rattle.marshal.proofs.CommandWriting.{commandHanded}
 use Rattle.marshal.proofs.ResponseWriting.{responseHanded}
@@ -52,8 +56,16 @@ pub data Call : Type 0 where
   reads : Asked → Call
   again-command : List ℕ → ℕ → Call
   again-response : ℕ → List ℕ → ℕ → Call
-  write-command write-response write-bad-tag : ℕ → ℕ → Handed → ℕ → Call
-  again-bad-tag : ℕ → List ℕ → ℕ → Call
+  write-command : ℕ → ℕ → Handed → ℕ → Call
+  write-response : Mode → ℕ → ℕ → Handed → ℕ → Call
+  again-standard : ℕ → List ℕ → ℕ → Call
+
+-- a response written in a mode, by the rules and the tag that go with it
+abbrev by : Mode → ResponseRules
+by m = record { mode = m }
+
+abbrev in-mode : Mode → ℕ → ℕ → Handed → ℕ → Said (List ℕ)
+in-mode m = writeResponse (bookFor (by m)) (asked (by m))
 
 -- what the call answers; a writer by the bytes that it writes
 abbrev pub answer : Call → Said (List ℕ)
@@ -63,14 +75,13 @@ answer (again-command s room) =
     writeCommand rust (c .tag .0) (c .cc .0) (commandHanded s c) room
 answer (again-response cc s room) =
     then (responseByValue s (readResponse rust cc s)) λ r.
-    writeResponse rust false cc (r .rc .0) (responseHanded s r) room
+    in-mode mode.Rust cc (r .rc .0) (responseHanded s r) room
 answer (write-command tag code h room) = writeCommand rust tag code h room
-answer (write-response cc code h room) = writeResponse rust false cc code h room
--- in the standard mode, the tag of the answer to a bad tag asked for where it was read, or in any case
-answer (again-bad-tag cc s room) =
+answer (write-response m cc code h room) = in-mode m cc code h room
+-- in the standard mode, with the tag of the answer to a bad tag asked for where it was read
+answer (again-standard cc s room) =
     then (responseByValue s (readResponse standard cc s)) λ r.
-    writeResponse standard (eqb (r .tag .0) rspCommand) cc (r .rc .0) (responseHanded s r) room
-answer (write-bad-tag cc code h room) = writeResponse standard true cc code h room
+    in-mode (cond (eqb (r .tag .0) rspCommand) mode.BadTag mode.Standard) cc (r .rc .0) (responseHanded s r) room
 
 -- ---- the table
 
@@ -109,7 +120,7 @@ rows =
     ∷ row (again-command (B 0x1b 9 entry) 27) (gives (B 0x1b 9 entry))
     ∷ row (again-response 0x17b (C 0x04) 23) (gives (C 0x04))
     ∷ row (again-response 0x15e failed 10) (gives failed)
-    ∷ row (write-response 0x15e 0x101 (handed (0x80 ∷ 0 ∷ 0 ∷ 0 ∷ []) (byValue []) [] (0xaa ∷ [])) 10) (gives failed)
+    ∷ row (write-response mode.Rust 0x15e 0x101 (handed (0x80 ∷ 0 ∷ 0 ∷ 0 ∷ []) (byValue []) [] (0xaa ∷ [])) 10) (gives failed)
     ∷ []
 
 abbrev pub answers : List Row → List (Said (List ℕ))
@@ -152,6 +163,10 @@ given handles count first second third =
 abbrev pub handle : List ℕ
 handle = 0x80 ∷ 0 ∷ 0 ∷ 0 ∷ []
 
+-- the code of the answer to a bad tag, under the plain tag
+abbrev plainBytes : List ℕ
+plainBytes = 0x80 ∷ 1 ∷ 0 ∷ 0 ∷ 0 ∷ 0x0a ∷ 0 ∷ 0 ∷ 0 ∷ 0x1e ∷ []
+
 abbrev pub refusals : List Row
 refusals =
     row (write-command 0xc4 0 (given [] 4 past past past) 0) (refuses (3 ∷ 0 ∷ 0xc4 ∷ []))
@@ -166,25 +181,28 @@ refusals =
     ∷ row (write-command 0x8002 0x15e (given handle 3 whole past half) 0) (refuses (1 ∷ 6 ∷ 1 ∷ 0 ∷ []))
     ∷ row (write-command 0x8002 0x15e (given handle 3 whole whole half) 0) (refuses (1 ∷ 4 ∷ 3 ∷ 1 ∷ []))
     ∷ row (write-command 0x8002 0x15e (given handle 2 whole whole half) 45) (refuses (9 ∷ 0 ∷ 46 ∷ 45 ∷ []))
-    ∷ row (write-response 0 0xc4 (given [] 4 past past past) 0) (refuses (6 ∷ 0 ∷ 3 ∷ 4 ∷ []))
-    ∷ row (write-response 0 0xc4 (given [] 3 past past past) 0) (refuses (4 ∷ 0 ∷ 0 ∷ []))
-    ∷ row (write-response 0x131 0xc4 (given [] 3 past past past) 0) (refuses (5 ∷ 0 ∷ 0xc4 ∷ []))
-    ∷ row (write-response 0x131 0x101 (given [] 3 past past past) 0) (refuses (3 ∷ 0 ∷ 0x8002 ∷ []))
-    ∷ row (write-response 0x131 0x101 (given [] 0 past past past) 9) (refuses (9 ∷ 0 ∷ 10 ∷ 9 ∷ []))
-    ∷ row (write-response 0x131 0 (given [] 3 past past past) 0) (refuses (1 ∷ 0 ∷ 4 ∷ 0 ∷ []))
-    ∷ row (write-response 0x131 0 (given (0 ∷ handle) 3 past past past) 0) (refuses (2 ∷ 4 ∷ 1 ∷ []))
-    ∷ row (write-response 0x131 0 (given handle 3 half past past) 0) (refuses (1 ∷ 4 ∷ 3 ∷ 1 ∷ []))
-    ∷ row (write-response 0x131 0 (given handle 2 whole whole half) 37) (refuses (9 ∷ 0 ∷ 38 ∷ 37 ∷ []))
-    ∷ row (write-bad-tag 0 0x31 (given [] 4 past past past) 0) (refuses (6 ∷ 0 ∷ 3 ∷ 4 ∷ []))
-    ∷ row (write-bad-tag 0 0x31 (given [] 3 past past past) 0) (refuses (4 ∷ 0 ∷ 0 ∷ []))
-    ∷ row (write-bad-tag 0x131 0x31 (given [] 3 past past past) 0) (refuses (5 ∷ 0 ∷ 0x31 ∷ []))
-    ∷ row (write-bad-tag 0x131 0x1e (given [] 3 past past past) 0) (refuses (3 ∷ 0 ∷ 0x8002 ∷ []))
-    ∷ row (write-bad-tag 0x131 0x101 (given [] 1 past past past) 0) (refuses (3 ∷ 0 ∷ 0x8002 ∷ []))
-    ∷ row (write-bad-tag 0x131 0 (given [] 3 past past past) 0) (refuses (5 ∷ 0 ∷ 0 ∷ []))
-    ∷ row (write-bad-tag 0x131 0x101 (given [] 0 past past past) 0) (refuses (5 ∷ 0 ∷ 0x101 ∷ []))
-    ∷ row (write-bad-tag 0x131 0x1e (given [] 0 past past past) 9) (refuses (9 ∷ 0 ∷ 10 ∷ 9 ∷ []))
-    ∷ row (write-bad-tag 0x131 0x1e (given [] 0 past past past) 10) (gives badTagBytes)
-    ∷ row (again-bad-tag 0x15e badTagBytes 10) (gives badTagBytes)
+    ∷ row (write-response mode.Rust 0 0xc4 (given [] 4 past past past) 0) (refuses (6 ∷ 0 ∷ 3 ∷ 4 ∷ []))
+    ∷ row (write-response mode.Rust 0 0xc4 (given [] 3 past past past) 0) (refuses (4 ∷ 0 ∷ 0 ∷ []))
+    ∷ row (write-response mode.Rust 0x131 0xc4 (given [] 3 past past past) 0) (refuses (5 ∷ 0 ∷ 0xc4 ∷ []))
+    ∷ row (write-response mode.Rust 0x131 0x101 (given [] 3 past past past) 0) (refuses (3 ∷ 0 ∷ 0x8002 ∷ []))
+    ∷ row (write-response mode.Rust 0x131 0x101 (given [] 0 past past past) 9) (refuses (9 ∷ 0 ∷ 10 ∷ 9 ∷ []))
+    ∷ row (write-response mode.Rust 0x131 0 (given [] 3 past past past) 0) (refuses (1 ∷ 0 ∷ 4 ∷ 0 ∷ []))
+    ∷ row (write-response mode.Rust 0x131 0 (given (0 ∷ handle) 3 past past past) 0) (refuses (2 ∷ 4 ∷ 1 ∷ []))
+    ∷ row (write-response mode.Rust 0x131 0 (given handle 3 half past past) 0) (refuses (1 ∷ 4 ∷ 3 ∷ 1 ∷ []))
+    ∷ row (write-response mode.Rust 0x131 0 (given handle 2 whole whole half) 37) (refuses (9 ∷ 0 ∷ 38 ∷ 37 ∷ []))
+    ∷ row (write-response mode.BadTag 0 0x31 (given [] 4 past past past) 0) (refuses (6 ∷ 0 ∷ 3 ∷ 4 ∷ []))
+    ∷ row (write-response mode.BadTag 0 0x31 (given [] 3 past past past) 0) (refuses (4 ∷ 0 ∷ 0 ∷ []))
+    ∷ row (write-response mode.BadTag 0x131 0x31 (given [] 3 past past past) 0) (refuses (5 ∷ 0 ∷ 0x31 ∷ []))
+    ∷ row (write-response mode.BadTag 0x131 0x1e (given [] 3 past past past) 0) (refuses (3 ∷ 0 ∷ 0x8002 ∷ []))
+    ∷ row (write-response mode.BadTag 0x131 0x101 (given [] 1 past past past) 0) (refuses (3 ∷ 0 ∷ 0x8002 ∷ []))
+    ∷ row (write-response mode.BadTag 0x131 0 (given [] 3 past past past) 0) (refuses (5 ∷ 0 ∷ 0 ∷ []))
+    ∷ row (write-response mode.BadTag 0x131 0x101 (given [] 0 past past past) 0) (refuses (5 ∷ 0 ∷ 0x101 ∷ []))
+    ∷ row (write-response mode.BadTag 0x131 0x1e (given [] 0 past past past) 9) (refuses (9 ∷ 0 ∷ 10 ∷ 9 ∷ []))
+    ∷ row (write-response mode.BadTag 0x131 0x1e (given [] 0 past past past) 10) (gives badTagBytes)
+    ∷ row (again-standard 0x15e badTagBytes 10) (gives badTagBytes)
+    ∷ row (again-standard 0x15e plainBytes 10) (gives plainBytes)
+    ∷ row (write-response mode.Standard 0x131 0x1e (given [] 0 past past past) 10) (gives plainBytes)
+    ∷ row (write-response mode.Rust 0x131 0x1e (given [] 0 past past past) 10) (gives plainBytes)
     ∷ []
 
 pub order : answers refusals ≡ results refusals
