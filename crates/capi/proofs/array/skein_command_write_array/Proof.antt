@@ -12,7 +12,7 @@ use Rattle.frame.specs.declared.rules.Rules.{Rules}
 use Rattle.marshal.specs.Handed.{Handed}
 use Rattle.marshal.specs.Write.{writeCommand}
 use Rattle.capi.specs.Rules.{rulesNumbered}
-use Rattle.sessions.proofs.Writing.{Three}
+use Rattle.sessions.proofs.Gathering.{Three}
 use Rattle.sessions.proofs.records.first_three.Symbol as three-def
 use Rattle.sessions.proofs.records.first_three.Symbol.{name as #three}
 use Rattle.sessions.proofs.records.first_three.Met as three-thm

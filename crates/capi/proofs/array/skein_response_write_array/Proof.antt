@@ -12,7 +12,7 @@ use Rattle.marshal.specs.Mode.{asked, bookFor}
 use Rattle.marshal.specs.Write.{writeResponse}
 use Rattle.marshal.specs.declared.mode.ResponseRules.{ResponseRules}
 use Rattle.capi.specs.Rules.{modeNumbered}
-use Rattle.sessions.proofs.Writing.{Three}
+use Rattle.sessions.proofs.Gathering.{Three}
 use Rattle.sessions.proofs.records.first_three.Symbol as three-def
 use Rattle.sessions.proofs.records.first_three.Symbol.{name as #three}
 use Rattle.sessions.proofs.records.first_three.Met as three-thm

@@ -17,7 +17,8 @@ use Rattle.marshal.proofs.command.write.Symbol as core-def
 use Rattle.marshal.proofs.command.write.Symbol.{name as #core}
 use Rattle.marshal.proofs.command.write.Met as core-thm
 use Rattle.sessions.proofs.Numbers as numbers
-use Rattle.sessions.proofs.Writing.{Three, Core, writes-by}
+use Rattle.sessions.proofs.Gathering.{Three}
+use Rattle.sessions.proofs.Writing.{Core, writes-by}
 use Rattle.sessions.proofs.records.first_three.Symbol as three-def
 use Rattle.sessions.proofs.records.first_three.Symbol.{name as #three}
 use Rattle.sessions.proofs.records.first_three.Met as three-thm
