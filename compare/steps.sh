@@ -134,11 +134,26 @@ build_oracle() {
     echo "$me: $said"
 }
 
-# Links a Rust program with the library of the repository in DIR, and with the crate where there is one.
+has_tss() {
+    echo '#include <tss2/tss2_mu.h>' | cc -fsyntax-only -x c - 2>/dev/null
+}
+
+# Compiles what asks tpm2-tss, where that is at hand, and sets $tss to what came of it.
+tss=''
+build_tss() {
+    has_tss || try_install libtss2-dev
+    has_tss || return 0
+    tss=$work/tss.o
+    cc -O3 -Wall -Wextra -Werror -c -o "$tss" "$root/bench/src/tss.c" || fail "bench/src/tss.c is not compiled"
+}
+
+# Links a Rust program with the library of the repository in DIR, with the crate where there is one, and with tpm2-tss where
+# that was asked for and is at hand.
 build_program() { # DIR SOURCE OUT
     set -- "$2" -o "$3" -L "native=$1/target/staticlib" -l static=capi
     [ -z "$oracle" ] || set -- "$@" --cfg oracle --extern "tpm2_protocol=$oracle"
-    "$RUSTC" --edition 2024 -C opt-level=3 --check-cfg 'cfg(oracle)' "$@"
+    [ -z "$tss" ] || set -- "$@" --cfg tss -C "link-arg=$tss" -C link-arg=-ltss2-mu
+    "$RUSTC" --edition 2024 -C opt-level=3 --check-cfg 'cfg(oracle)' --check-cfg 'cfg(tss)' "$@"
 }
 
 build_driver() { # DIR

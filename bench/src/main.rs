@@ -24,6 +24,9 @@ mod rows;
 mod time;
 mod tss;
 #[allow(dead_code)]
+#[path = "../../compare/src/tss/library.rs"]
+mod tss_library;
+#[allow(dead_code)]
 #[path = "../../compare/src/write/oracle.rs"]
 mod write_oracle;
 mod writers;

@@ -1,5 +1,5 @@
 /* tpm2-tss's marshalling library in the shape of our calls: a command taken apart, and written. The library has no call for
- * bytes of no type, as the parameters are here; they are pointed at, and copied. */
+ * bytes of no type, as the parameters are here; they are pointed at, and copied. The comparison asks it too. */
 #include <stdint.h>
 #include <string.h>
 #include <tss2/tss2_mu.h>
@@ -16,8 +16,8 @@ struct command {
     size_t parameters_len;
 };
 
-/* What tss.rs keeps for it. */
-_Static_assert(sizeof(struct command) <= 512, "a command is larger than the place for it");
+/* As ../../compare/src/tss/library.rs has it. */
+_Static_assert(sizeof(struct command) == 480, "a command is not as the Rust has it");
 
 #define TRY(call)                                                                                                              \
     do {                                                                                                                       \

@@ -5,9 +5,9 @@ use crate::calls::{self, Out, RUST};
 use crate::frame::known;
 use crate::frames::{self, Pair, each};
 use crate::rows::{Row, Side};
+use crate::tss_library::{self, Command};
 use crate::writers;
 use std::hint::black_box;
-use std::marker::PhantomData;
 use std::mem::MaybeUninit;
 
 pub static ROWS: &[Row] = &[
@@ -22,33 +22,8 @@ pub static ROWS: &[Row] = &[
 
 // ---- the library
 
-/// A command as the library's types hold it; tss.c sees to it that there is place. It points at the parameters among the
-/// bytes that it was read from.
-#[repr(C)]
-struct Command<'a>([u64; 64], PhantomData<&'a [u8]>);
-
-#[cfg(tss)]
-mod library {
-    unsafe extern "C" {
-        pub fn tss_command_read(s: *const u8, len: usize, handles: usize, command: *mut super::Command) -> u32;
-        pub fn tss_command_write(command: &super::Command, room: *mut u8, len: usize, total: &mut u64) -> u32;
-    }
-}
-
-#[cfg(not(tss))]
-mod library {
-    pub unsafe fn tss_command_read(_: *const u8, _: usize, _: usize, _: *mut super::Command) -> u32 {
-        panic!("tpm2-tss is not linked")
-    }
-
-    pub unsafe fn tss_command_write(_: &super::Command, _: *mut u8, _: usize, _: &mut u64) -> u32 {
-        panic!("tpm2-tss is not linked")
-    }
-}
-
 fn command_write(command: &Command, room: &mut [u8], out: &mut Out) -> u32 {
-    // SAFETY: start and length are those of one slice; the bytes that the command was read from are borrowed with it.
-    unsafe { library::tss_command_write(command, room.as_mut_ptr(), room.len(), &mut out[0]) }
+    tss_library::command_write(command, room, &mut out[0])
 }
 
 /// A command's bytes with the number of its handles, which the library does not know.
@@ -64,15 +39,11 @@ impl<'a> Asked<'a> {
     }
 
     fn read(&self, place: &mut MaybeUninit<Command<'a>>) -> u32 {
-        // SAFETY: start and length are those of one slice, and tss.c writes no more than the place has.
-        unsafe { library::tss_command_read(self.bytes.as_ptr(), self.bytes.len(), self.handles, place.as_mut_ptr()) }
+        tss_library::command_read(self.bytes, self.handles, place)
     }
 
     fn command(&self) -> Command<'a> {
-        let mut place = MaybeUninit::zeroed();
-        assert_eq!(self.read(&mut place), 0, "the command is refused");
-        // SAFETY: every byte is set, and any bytes are numbers.
-        unsafe { place.assume_init() }
+        tss_library::command(self.bytes, self.handles).expect("the command is not refused")
     }
 }
 

@@ -180,6 +180,14 @@ impl Answer {
         number.is_some()
     }
 
+    /// The answer of such a call on bytes that stay where they are, of which nothing is kept; none where it was not made.
+    pub fn in_place(s: &mut [u8], call: impl FnOnce(&mut [u8], &mut Kept, &mut Out) -> Option<u32>) -> Option<Self> {
+        let mut answer = Self::new();
+        let Self { said, kept, .. } = &mut answer;
+        said.number = call(s, kept, &mut said.out)?;
+        Some(answer)
+    }
+
     /// All numbers that were reported, and behind them those of the parts of a frame that was not refused.
     pub fn values(&self) -> impl Iterator<Item = u64> {
         let parts = self.kept.iter().filter(|_| self.said.number == 0).flat_map(numbers);

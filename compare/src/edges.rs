@@ -1,6 +1,7 @@
 //! Inputs at which an answer may turn.
 
 use crate::random::Random;
+use std::iter::successors;
 
 /// Each number with its two neighbours, rising and none twice.
 pub fn near(points: &[usize]) -> Vec<usize> {
@@ -8,6 +9,19 @@ pub fn near(points: &[usize]) -> Vec<usize> {
     near.sort_unstable();
     near.dedup();
     near
+}
+
+/// Lengths around the limit of the standard rules on nonces and HMACs, such whose second byte counts, and last the longest.
+pub const AROUND_LIMIT: [usize; 8] = [0, 1, 63, 64, 65, 255, 256, LONGEST];
+pub const LONGEST: usize = u16::MAX as usize;
+
+/// Every choice of one of these for each of so many fields, the first field changing fastest.
+pub fn combinations(choices: &[usize], fields: usize) -> impl Iterator<Item = Vec<usize>> {
+    let count = choices.len().pow(fields as u32);
+    (0..count).map(move |n| {
+        let digits = successors(Some(n), |n| Some(n / choices.len()));
+        digits.take(fields).map(|digit| choices[digit % choices.len()]).collect()
+    })
 }
 
 /// A size field, and random bytes behind it to the length, which may cut the field itself.

@@ -2,8 +2,9 @@
 //! they are read by.
 //!
 //! Each call that takes rules is made in the Rust reading and in the standard one. The crate judges wherever safe Rust can
-//! ask it, read with document 01's limit on sessions and no other change, and in the standard reading too where the two are
-//! one; document 01's rules, written out with those of the standard reading, judge everything.
+//! ask it, read with document 01's limit on sessions and no other change; in the standard reading too, read with that
+//! reading's limit on nonces and HMACs, but for the answer to a bad tag. Document 01's rules, written out with those of the
+//! standard reading, judge everything.
 
 mod call;
 mod desk;
@@ -26,8 +27,6 @@ pub use listed::list;
 
 use crate::answer::{Answer, Hex};
 use crate::by::Given;
-#[cfg(oracle)]
-use crate::calls::{RUST, STANDARD};
 use crate::judge::{Case, Judge, Tally};
 use crate::random::Random;
 use crate::shrink;
@@ -78,46 +77,23 @@ impl Case for Frame {
 
 #[cfg(oracle)]
 fn by_crate(case: &Frame, answer: &mut Answer) -> bool {
-    case.is_as_in_rust() && answer.try_call_for_parts(|s, kept, out| (case.call.theirs)(s, case.number, kept, out))
+    answer.try_call_for_parts(|s, kept, out| case.call.by_crate(case.by, s, case.number, kept, out))
 }
 
-#[cfg(oracle)]
-impl Frame {
-    /// Whether the Rust reading has an answer to the case. The standard reading parts from it in responses alone, and
-    /// only under the tag of the answer to a bad tag.
-    fn is_as_in_rust(&self) -> bool {
-        match self.by {
-            RUST => true,
-            STANDARD => !(make::is_under_bad_tag(&self.bytes) && self.call.of_response()),
-            _ => false,
-        }
-    }
-}
-
-/// It speaks about every input.
 fn by_document(case: &Frame, answer: &mut Answer) -> bool {
-    answer.try_call_for_parts(|s, kept, out| Some((case.call.rules)(case.by, s, case.number, kept, out)))
+    answer.try_call_for_parts(|s, kept, out| case.call.by_rules(case.by, s, case.number, kept, out))
 }
 
 pub fn run(random: &mut Random, thin: bool) -> Vec<Tally> {
     #[cfg(oracle)]
-    let before = limit::explained();
+    let before = limit::EXPLAINED.so_far();
     let mut desk = Desk::new();
     inputs::each(&mut desk, random, thin);
     #[cfg(oracle)]
     {
-        tell_explained(limit::explained() - before, &mut desk);
+        let second = "its taking nonces and HMACs of more than 64 bytes (D17)";
+        limit::EXPLAINED.tell(before, "frame", second, desk.tally(named("command_validate")));
         differences::show(&mut desk);
     }
     desk.done()
-}
-
-/// Tells how many of the crate's answers were read with document 01's limit on sessions. There must be some: else nothing
-/// shows that the difference is there. That it is the only one, the tallies show.
-#[cfg(oracle)]
-fn tell_explained(count: u64, desk: &mut Desk) {
-    println!("frame: {count} answers of tpm2-protocol are explained by its limit of eight sessions, not three (D1)");
-    if count == 0 {
-        desk.tally(named("command_validate")).differs_in_all("no answer differs by the limit on sessions");
-    }
 }

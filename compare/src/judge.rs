@@ -13,6 +13,7 @@ use std::sync::atomic::{AtomicU64, Ordering};
 /// The names of the judges.
 pub const CRATE: &str = "tpm2-protocol";
 pub const RULES: &str = "document 01";
+pub const TSS: &str = "tpm2-tss";
 
 /// A call with its input. It is displayed as on the fixed list: the call's name, then what it is given.
 pub trait Case: Clone + Display + 'static {
@@ -48,7 +49,15 @@ impl<C> Judge<C> {
     pub const fn document_01(says: Says<C>) -> Self {
         Self { name: RULES, says }
     }
+
+    /// The marshalling library of tpm2-tss.
+    pub const fn tpm2_tss(says: Says<C>) -> Self {
+        Self { name: TSS, says }
+    }
 }
+
+/// The number of the refusal of a length beyond a limit.
+pub const TOO_LONG: u32 = 8;
 
 /// Mismatches of one call that are printed; the rest are only counted.
 pub const PRINTED: u64 = 5;
@@ -64,29 +73,35 @@ struct Voice {
 #[derive(Clone, Copy, Default)]
 pub struct Count {
     pub calls: u64,
-    /// The calls that the crate judged, alone or with document 01's rules beside it. The others were judged by those
-    /// rules alone.
+    /// The calls that the crate judged, alone or with document 01's rules beside it, and those that tpm2-tss did. The others
+    /// were judged by those rules alone.
     by_crate: u64,
+    pub by_tss: u64,
     pub mismatches: u64,
-    /// Answers that the crate contradicts, and that another judge does.
+    /// Answers that the crate contradicts, that document 01's rules do, and that tpm2-tss does.
     pub against_crate: u64,
     pub against_rules: u64,
+    pub against_tss: u64,
 }
 
 impl AddAssign for Count {
     fn add_assign(&mut self, more: Self) {
         self.calls += more.calls;
         self.by_crate += more.by_crate;
+        self.by_tss += more.by_tss;
         self.mismatches += more.mismatches;
         self.against_crate += more.against_crate;
         self.against_rules += more.against_rules;
+        self.against_tss += more.against_tss;
     }
 }
 
 impl Display for Count {
     fn fmt(&self, f: &mut fmt::Formatter) -> fmt::Result {
         write!(f, "{} calls, {} mismatches: ", self.calls, self.mismatches)?;
-        write!(f, "{} judged by {CRATE}, {} by {RULES} alone", self.by_crate, self.calls - self.by_crate)
+        let alone = self.calls - self.by_crate - self.by_tss;
+        write!(f, "{} judged by {CRATE}, {alone} by {RULES} alone", self.by_crate)?;
+        if self.by_tss > 0 { write!(f, ", {} by {TSS}", self.by_tss) } else { Ok(()) }
     }
 }
 
@@ -127,6 +142,8 @@ pub struct Tally {
     name: String,
     by: By,
     calls: u64,
+    /// Those that refuse a length.
+    too_long: u64,
     mismatches: u64,
     /// One for each judge, in their order.
     voices: Vec<Voice>,
@@ -146,6 +163,7 @@ impl Tally {
             name: name.into() + by.word(),
             by,
             calls: 0,
+            too_long: 0,
             mismatches: 0,
             voices: C::JUDGES.iter().map(|judge| Voice { judge: judge.name, spoke: 0, against: 0 }).collect(),
             ours: Answer::new(),
@@ -157,14 +175,24 @@ impl Tally {
         self.calls
     }
 
+    /// The calls that were refused by the number of a length beyond a limit.
+    pub fn too_long(&self) -> u64 {
+        self.too_long
+    }
+
     pub fn count(&self) -> Count {
         let mut count = Count { calls: self.calls, mismatches: self.mismatches, ..Count::default() };
         for voice in &self.voices {
-            if voice.judge == CRATE {
-                count.by_crate += voice.spoke;
-                count.against_crate += voice.against;
-            } else {
-                count.against_rules += voice.against;
+            match voice.judge {
+                CRATE => {
+                    count.by_crate += voice.spoke;
+                    count.against_crate += voice.against;
+                }
+                TSS => {
+                    count.by_tss += voice.spoke;
+                    count.against_tss += voice.against;
+                }
+                _ => count.against_rules += voice.against,
             }
         }
         count
@@ -175,6 +203,7 @@ impl Tally {
     pub fn check<C: Case>(&mut self, case: &C) {
         self.calls += 1;
         self.ask_ours(case);
+        self.too_long += u64::from(self.ours.said.number() == TOO_LONG);
         let (mut judged, mut first) = (false, None);
         for (i, judge) in C::JUDGES.iter().enumerate() {
             if !self.ask(judge, case) {
@@ -193,6 +222,13 @@ impl Tally {
         }
     }
 
+    /// Adds a call that the suite itself has made and held to the judges that spoke, none of whom contradicts its answer.
+    pub fn agreed(&mut self, answer: &Answer, spoke: impl Iterator<Item = bool>) {
+        self.calls += 1;
+        self.too_long += u64::from(answer.said.number() == TOO_LONG);
+        self.voices.iter_mut().zip(spoke).for_each(|(voice, spoke)| voice.spoke += u64::from(spoke));
+    }
+
     /// Adds calls that the suite itself has made and held to the first judge.
     pub fn add(&mut self, calls: u64, mismatches: u64) {
         self.calls += calls;
@@ -204,6 +240,7 @@ impl Tally {
     /// Adds what another thread counted of the same call.
     pub fn merge(&mut self, other: &Self) {
         self.calls += other.calls;
+        self.too_long += other.too_long;
         self.mismatches += other.mismatches;
         for (mine, more) in self.voices.iter_mut().zip(&other.voices) {
             mine.spoke += more.spoke;

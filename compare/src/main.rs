@@ -1,11 +1,11 @@
 //! Compares the calls of the proved library with document 01's rules written out, among them Rust's own conversions, and,
-//! compiled with `--cfg oracle`, with the crate tpm2-protocol.
+//! compiled with `--cfg oracle`, with the crate tpm2-protocol; compiled with `--cfg tss`, with tpm2-tss.
 //!
 //! usage: driver [--seed N] [--thin] [SUITE..]
 //!                                        compares; the status is 1 if anything differs. Thinned, it leaves out most of
 //!                                        the calls where there are billions: for a library known to be wrong, or one
 //!                                        that an emulator runs. A line `verdict: WHOSE: passed|FAILED|skipped` tells
-//!                                        what came of document 01, of the crate and of recorded traffic
+//!                                        what came of document 01, of the crate, of recorded traffic and of tpm2-tss
 //!        driver --list                   prints the fixed list of calls with the judges' answers, one a line, for a
 //!                                        replay on machines without Rust: `NAME BYTES PLACE N = NUMBER VALUES`, and
 //!                                        for a call that writes ` ; LATER-BYTES`
@@ -20,6 +20,8 @@ mod by;
 #[path = "../../bindings/rust/src/calls.rs"]
 mod calls;
 mod edges;
+#[cfg(oracle)]
+mod explained;
 mod field;
 mod fixed;
 mod frame;
@@ -32,6 +34,7 @@ mod report;
 mod shown;
 mod shrink;
 mod traffic;
+mod tss;
 mod view;
 mod write;
 
@@ -47,7 +50,7 @@ struct Suite {
     list: fn(&mut Random),
 }
 
-static SUITES: [Suite; 7] = [
+static SUITES: [Suite; 8] = [
     Suite { name: "field", run: |random, _| field::run(random), list: field::list },
     Suite { name: "rc", run: rc::run, list: rc::list },
     Suite { name: "view", run: |random, _| view::run(random), list: view::list },
@@ -55,6 +58,7 @@ static SUITES: [Suite; 7] = [
     Suite { name: "frame", run: frame::run, list: frame::list },
     Suite { name: "write", run: write::run, list: |_| () },
     Suite { name: TRAFFIC, run: |_, _| traffic::run(), list: |_| () },
+    Suite { name: "tss", run: tss::run, list: |_| () },
 ];
 
 /// The suite of frames that are not made here.
@@ -100,9 +104,11 @@ fn compare(seed: u64, thin: bool, suites: &[&Suite]) -> ExitCode {
         *counts += one_suite(suite, seed, thin);
     }
     let of_made = made.all();
-    verdict(judge::RULES, of_made.calls > 0, of_made.against_rules);
-    verdict(judge::CRATE, of_made.calls > 0 && cfg!(oracle), of_made.against_crate);
+    let by_others = of_made.calls > of_made.by_tss;
+    verdict(judge::RULES, by_others, of_made.against_rules);
+    verdict(judge::CRATE, by_others && cfg!(oracle), of_made.against_crate);
     verdict("recorded traffic", recorded.all().calls > 0, recorded.all().mismatches);
+    verdict(judge::TSS, of_made.by_tss > 0, of_made.against_tss);
     made += recorded;
     made.tell("compare");
     if made.all().mismatches == 0 { ExitCode::SUCCESS } else { ExitCode::FAILURE }
@@ -118,7 +124,7 @@ fn one_suite(suite: &Suite, seed: u64, thin: bool) -> Counts {
     counts
 }
 
-/// What came of one of the three. What is not at hand, or was not asked for, is skipped: it neither passes nor fails.
+/// What came of one of the four. What is not at hand, or was not asked for, is skipped: it neither passes nor fails.
 fn verdict(whose: &str, at_hand: bool, against: u64) {
     match (at_hand, against) {
         (false, _) => println!("verdict: {whose}: skipped"),

@@ -1,13 +1,16 @@
 //! The traffic suite: frames as TPM software and a TPM wrote them, and frames that other projects publish in their tests.
 //! They are not part of the repository: SKEIN_TRAFFIC names the folder that has them, else it is ../shared/facts beside
 //! the repository. A response is judged for the code of the command that it answers. Each frame that passes is written
-//! again from its parts.
+//! again from its parts. The two readings have to judge alike, but for the answer to a bad tag and for a nonce or an HMAC
+//! that is too long.
 
 mod published;
 
-use crate::calls::{self, RUST};
-use crate::frame::{Desk, Kind, named, real};
-use crate::judge::Tally;
+use crate::answer::Hex;
+use crate::calls::{self, Out, RUST, STANDARD};
+use crate::frame::{Desk, Kind, make, named, real};
+use crate::judge::{RULES, TOO_LONG, Tally};
+use crate::shown::said;
 use crate::write::{self, Again};
 use std::collections::BTreeMap;
 use std::fs;
@@ -32,10 +35,12 @@ impl Count {
     }
 }
 
-/// Where the calls on the frames are made.
+/// Where the calls on the frames are made, and how many frames the readings judge differently: by their kind, and the number
+/// of each reading.
 struct Desks {
     read: Desk,
     again: Again,
+    apart: BTreeMap<(&'static str, [u32; 2]), u64>,
 }
 
 /// Where the frames should be.
@@ -53,32 +58,47 @@ pub fn run() -> Vec<Tally> {
         println!("traffic: skipped, since there is no {} (SKEIN_TRAFFIC can name another)", folder.display());
         return Vec::new();
     }
-    let mut desks = Desks { read: Desk::new(), again: Again::new() };
+    let mut desks = Desks { read: Desk::new(), again: Again::new(), apart: BTreeMap::new() };
     traces(&mut desks, &folder.join("traces"));
     published::check(&mut desks, &folder.join("published-frames.csv"));
+    tell_apart(&desks.apart);
     desks.again.tell(super::TRAFFIC);
     let mut tallies = desks.read.done();
     tallies.extend(desks.again.desk.done());
     tallies
 }
 
-/// A line of a trace: a command and its response, in hexadecimal.
+/// A line of a trace is a command and its response, in hexadecimal.
 fn traces(desks: &mut Desks, folder: &Path) {
     let (mut commands, mut responses) = (Count::default(), Count::default());
-    for file in texts(folder) {
-        let text = read(&file);
-        for line in text.lines() {
-            let pair = real::pair(line);
-            let (command, response) = pair.unwrap_or_else(|| panic!("a line of {} is no pair", file.display()));
-            commands.add(ask_command(desks, &command));
-            responses.add(ask_response(desks, real::code(&command), &response));
-            // as they follow each other on a bus
-            desks.read.lay(&[command, response].concat());
-            desks.read.ask(named("command_cast_prefix"), 0);
-        }
+    for (command, response) in pairs(folder) {
+        commands.add(ask_command(desks, &command));
+        responses.add(ask_response(desks, real::code(&command), &response));
+        // as they follow each other on a bus
+        desks.read.lay(&[command, response].concat());
+        desks.read.ask(named("command_cast_prefix"), 0);
     }
     commands.tell("commands");
     responses.tell("responses");
+}
+
+/// The commands and responses of all traces.
+fn pairs(folder: &Path) -> Vec<(Vec<u8>, Vec<u8>)> {
+    let of_file = |file: PathBuf| {
+        let pair = |line| real::pair(line).unwrap_or_else(|| panic!("a line of {} is no pair", file.display()));
+        read(&file).lines().map(pair).collect::<Vec<_>>()
+    };
+    texts(folder).into_iter().flat_map(of_file).collect()
+}
+
+/// All commands, recorded and published; none where there is no such folder.
+pub fn commands() -> Vec<Vec<u8>> {
+    let folder = folder();
+    if !folder.is_dir() {
+        return Vec::new();
+    }
+    let recorded = pairs(&folder.join("traces")).into_iter().map(|(command, _)| command);
+    recorded.chain(published::commands(&folder.join("published-frames.csv"))).collect()
 }
 
 /// The trace files by name.
@@ -96,19 +116,52 @@ fn read(file: &Path) -> String {
 }
 
 /// Makes all calls on a command, and gives the number of its full check in the Rust reading.
-fn ask_command(Desks { read, again }: &mut Desks, frame: &[u8]) -> u32 {
+fn ask_command(desks: &mut Desks, frame: &[u8]) -> u32 {
+    let Desks { read, again, .. } = desks;
     read.lay(frame);
     read.ask_kind(Kind::Header, 0);
     read.ask_kind(Kind::Command, 0);
     again.frame(write::Kind::Command, 0, frame);
-    calls::command_validate(RUST, frame, &mut [0; 8])
+    beside(desks, "command", frame, |by, out| calls::command_validate(by, frame, out))
 }
 
 /// The same of a response to the command of a code.
-fn ask_response(Desks { read, again }: &mut Desks, cc: u32, frame: &[u8]) -> u32 {
+fn ask_response(desks: &mut Desks, cc: u32, frame: &[u8]) -> u32 {
+    let Desks { read, again, .. } = desks;
     read.lay(frame);
     read.ask_kind(Kind::Header, 0);
     read.ask_kind(Kind::Response, cc);
     again.frame(write::Kind::Response, cc, frame);
-    calls::response_validate(RUST, cc, frame, &mut [0; 8])
+    beside(desks, "response", frame, |by, out| calls::response_validate(by, cc, frame, out))
+}
+
+/// Makes the full check of a frame in each reading, and gives the number of the Rust's. Where the two differ, the standard
+/// one has to refuse a length, 8, or the frame has to be under the tag of the answer to a bad tag.
+fn beside(desks: &mut Desks, what: &'static str, frame: &[u8], check: impl Fn(u32, &mut Out) -> u32) -> u32 {
+    let [rust, standard] = [RUST, STANDARD].map(|by| {
+        let mut number = 0;
+        let said = said(|out| {
+            number = check(by, out);
+            number
+        });
+        (number, said)
+    });
+    if rust != standard {
+        *desks.apart.entry((what, [rust.0, standard.0])).or_default() += 1;
+        if standard.0 != TOO_LONG && !(what == "response" && make::is_under_bad_tag(frame)) {
+            let how = format!("{}: {} in the Rust reading, {} in the standard one", Hex(frame), rust.1, standard.1);
+            desks.read.tally(named(&format!("{what}_validate"))).differs_from(RULES, &how);
+        }
+    }
+    rust.0
+}
+
+fn tell_apart(apart: &BTreeMap<(&str, [u32; 2]), u64>) {
+    for what in ["command", "response"] {
+        let of_kind = || apart.iter().filter(|((kind, _), _)| *kind == what);
+        let all: u64 = of_kind().map(|(_, times)| times).sum();
+        print!("traffic: {all} {what}s are judged differently in the standard reading");
+        of_kind().for_each(|((_, [rust, standard]), times)| print!(", {times} by {standard}, not {rust}"));
+        println!();
+    }
 }

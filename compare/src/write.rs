@@ -2,8 +2,8 @@
 //!
 //! Each call is made in the Rust mode and in the standard one, and a response also with the tag of the answer to a bad tag
 //! asked for. Document 01's rules, written out with those of the standard mode, judge everything. The crate judges inside
-//! document 01's domain, read with document 01's limit on sessions and no other change, and in the standard mode too, which
-//! is the Rust's where that tag is not asked for.
+//! document 01's domain, read with document 01's limit on sessions and no other change; in the standard mode too, with its
+//! own word on a nonce or an HMAC that is too long, but where that tag is asked for.
 
 mod again;
 mod desk;
@@ -176,15 +176,18 @@ fn by_document(case: &Write, answer: &mut Answer) -> bool {
 }
 
 /// The crate has the Rust mode alone, and the standard one is the same where the tag of the answer to a bad tag is not asked
-/// for.
+/// for, but for a limit on nonces and HMACs.
 #[cfg(oracle)]
 fn by_crate(case: &Write, answer: &mut Answer) -> bool {
     if !READINGS.contains(&case.by) {
         return false;
     }
-    case.try_write(answer, |given, room, out| match case.kind {
-        Kind::Command => limit::command_write(case.number as u16, case.cc, given, case.needed(), room, out),
-        Kind::Response => limit::response_write(case.number, case.cc, given, case.needed(), room, out),
+    case.try_write(answer, |given, room, out| {
+        let asked = limit::Asked { by: case.by, given, needed: case.needed() };
+        match case.kind {
+            Kind::Command => limit::command_write(asked, case.number as u16, case.cc, room, out),
+            Kind::Response => limit::response_write(asked, case.number, case.cc, room, out),
+        }
     })
 }
 
@@ -234,23 +237,15 @@ fn simpler_field(field: Field) -> impl Iterator<Item = Field> {
 
 pub fn run(random: &mut Random, thin: bool) -> Vec<Tally> {
     #[cfg(oracle)]
-    let before = limit::explained();
+    let before = limit::EXPLAINED.so_far();
     let mut desk = Desk::new();
     inputs::each(&mut desk, random, thin);
     large::check(&mut desk);
     #[cfg(oracle)]
     {
-        tell_explained(limit::explained() - before, &mut desk);
+        let second = "what its view of a TPM2B says of more than 64 bytes";
+        limit::EXPLAINED.tell(before, "write", second, desk.tally(Kind::Command));
         differences::show(&mut desk);
     }
     desk.done()
-}
-
-/// As in the frame suite: there must be some, and the tallies show that no other difference is left.
-#[cfg(oracle)]
-fn tell_explained(count: u64, desk: &mut Desk) {
-    println!("write: {count} answers of tpm2-protocol are explained by its limit of eight sessions, not three (D1)");
-    if count == 0 {
-        desk.tally(Kind::Command).differs_in_all("no answer differs by the limit on sessions");
-    }
 }

@@ -6,7 +6,9 @@ use crate::by::READINGS;
 use crate::calls::{self, Out, RUST};
 
 #[cfg(oracle)]
-use super::{limit, oracle};
+use super::{limit, make, oracle};
+#[cfg(oracle)]
+use crate::calls::STANDARD;
 
 /// What a call is about: the calls of a kind are asked together.
 #[derive(Clone, Copy, PartialEq)]
@@ -24,6 +26,9 @@ pub enum Kind {
 /// Takes the number of the rules, the bytes, a number, a place for the parts, and the array; a call leaves alone what it
 /// has no use for.
 type Shape = fn(u32, &mut [u8], u32, &mut Kept, &mut Out) -> u32;
+
+/// What a judge says in a call's place; none where it cannot be asked.
+type Says = fn(&Call, u32, &mut [u8], u32, &mut Kept, &mut Out) -> Option<u32>;
 
 /// The same without rules, since the crate has those of the Rust reading alone; none where it cannot be asked.
 #[cfg(oracle)]
@@ -52,9 +57,33 @@ impl Call {
         if self.ruled { READINGS } else { &[RUST] }
     }
 
-    /// Whether it is about responses alone.
-    pub fn of_response(&self) -> bool {
-        self.name.starts_with("response")
+    /// Whether it is a full check, which walks the entries.
+    pub fn walks(&self) -> bool {
+        self.name.ends_with("_validate") || self.name.ends_with("_parts")
+    }
+
+    /// The judges, in the order in which they are asked.
+    pub const JUDGES: &[Says] = &[
+        #[cfg(oracle)]
+        Self::by_crate,
+        Self::by_rules,
+    ];
+
+    /// The crate has the Rust reading alone. The standard one parts from it in responses under the tag of the answer to a
+    /// bad tag, about which it is not asked, and in a limit, with which its answers are read.
+    #[cfg(oracle)]
+    pub fn by_crate(&self, by: u32, s: &mut [u8], number: u32, kept: &mut Kept, out: &mut Out) -> Option<u32> {
+        let can_be_asked = match by {
+            RUST => true,
+            STANDARD => !(make::is_under_bad_tag(s) && self.name.starts_with("response")),
+            _ => false,
+        };
+        if can_be_asked { limit::limited(self, by, s, number, kept, out) } else { None }
+    }
+
+    /// They speak about every input.
+    pub fn by_rules(&self, by: u32, s: &mut [u8], number: u32, kept: &mut Kept, out: &mut Out) -> Option<u32> {
+        Some((self.rules)(by, s, number, kept, out))
     }
 }
 
@@ -162,7 +191,7 @@ pub static CALLS: [Call; 24] = [
         ours: |by, s, _, _, out| calls::command_validate(by, s, out),
         rules: |by, s, _, _, out| rules::command_validate(by, s, out),
         #[cfg(oracle)]
-        theirs: |s, _, kept, out| Some(limit::command_validate(s, kept, out)),
+        theirs: |s, _, _, out| Some(oracle::command_validate(s, out)),
     },
     Call {
         name: "command_parts",
@@ -172,7 +201,7 @@ pub static CALLS: [Call; 24] = [
         ours: |by, s, _, kept, out| keep(calls::command_parts(by, s, out), kept),
         rules: |by, s, _, kept, out| keep(rules::command_parts(by, s, out), kept),
         #[cfg(oracle)]
-        theirs: |s, _, kept, out| Some(limit::command_parts(s, kept, out)),
+        theirs: |s, _, kept, out| Some(keep(oracle::command_parts(s, out), kept)),
     },
     Call {
         name: "command_cc",
@@ -242,7 +271,7 @@ pub static CALLS: [Call; 24] = [
         ours: |by, s, cc, _, out| calls::response_validate(by, cc, s, out),
         rules: |by, s, cc, _, out| rules::response_validate(by, cc, s, out),
         #[cfg(oracle)]
-        theirs: |s, cc, kept, out| limit::response_validate(cc, s, kept, out),
+        theirs: |s, cc, _, out| oracle::response_validate(cc, s, out),
     },
     Call {
         name: "response_parts",
@@ -252,7 +281,7 @@ pub static CALLS: [Call; 24] = [
         ours: |by, s, cc, kept, out| keep(calls::response_parts(by, cc, s, out), kept),
         rules: |by, s, cc, kept, out| keep(rules::response_parts(by, cc, s, out), kept),
         #[cfg(oracle)]
-        theirs: |s, cc, kept, out| limit::response_parts(cc, s, kept, out),
+        theirs: |s, cc, kept, out| Some(keep(oracle::response_parts(cc, s, out)?, kept)),
     },
     Call {
         name: "response_rc",

@@ -1,7 +1,8 @@
 //! Where the calls are made: one case that is changed in place, and a tally for each call and the rules that it is given.
 
-use super::call::{CALLS, Kind, named};
+use super::call::{CALLS, Call, Kind, named};
 use super::{Frame, known};
+use crate::answer::Answer;
 use crate::by::{By, READINGS};
 use crate::calls::RUST;
 use crate::judge::Tally;
@@ -63,6 +64,36 @@ impl Desk {
         self.case.by = by;
         self.case.number = if self.case.call.numbered { number } else { 0 };
         self.tallies[call][By::numbered(by, READINGS) as usize].check(&self.case);
+    }
+
+    /// Makes a call in each reading that it takes on bytes that are not copied, so that they can be long and many: whether
+    /// any byte was changed is not looked at. Where a judge contradicts, the call is made once more as all others are, which
+    /// counts and reports it.
+    pub fn ask_in_place(&mut self, s: &mut [u8], call: usize, number: u32) {
+        let asked = &CALLS[call];
+        for &by in asked.readings() {
+            let ours = Answer::in_place(s, |s, kept, out| Some((asked.ours)(by, s, number, kept, out)));
+            let ours = ours.expect("our call can be made");
+            let mut theirs = [const { None }; Call::JUDGES.len()];
+            for (place, says) in theirs.iter_mut().zip(Call::JUDGES) {
+                *place = Answer::in_place(s, |s, kept, out| says(asked, by, s, number, kept, out));
+            }
+            let tally = By::numbered(by, READINGS) as usize;
+            if theirs.iter().flatten().all(|theirs| *theirs == ours) {
+                self.tallies[call][tally].agreed(&ours, theirs.iter().map(Option::is_some));
+                continue;
+            }
+            let mismatches = |desk: &Self| desk.tallies[call][tally].count().mismatches;
+            let before = mismatches(self);
+            self.lay(s);
+            self.ask_by(by, call, number);
+            assert!(mismatches(self) > before, "{} differs on bytes in their place alone", asked.name);
+        }
+    }
+
+    /// How many calls were refused because a length is beyond the limit.
+    pub fn too_long(&self) -> u64 {
+        self.tallies.iter().flatten().map(Tally::too_long).sum()
     }
 
     /// Makes every call of a kind; those that take a number take this one.

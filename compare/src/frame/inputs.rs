@@ -4,6 +4,7 @@ mod bad_tag;
 mod damage;
 mod entries;
 mod headers;
+mod lengths;
 
 use super::call::{CALLS, Kind, named};
 use super::desk::{Desk, Numbers};
@@ -25,6 +26,7 @@ pub fn each(desk: &mut Desk, random: &mut Random, thin: bool) {
         headers::each(desk, random, thin);
         entries::each(desk, random, thin);
         damage::each(desk, random, thin);
+        lengths::each(desk, random, thin);
         bad_tag::each(desk, random, thin);
         unnamed(desk, random);
     });

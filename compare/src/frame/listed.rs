@@ -7,6 +7,7 @@ use super::call::{CALLS, Kind, named};
 use super::known::{self, Row};
 use super::make::{self, PLAIN, SESSIONS};
 use super::{Frame, real};
+use crate::by::READINGS;
 use crate::calls::RUST;
 use crate::edges;
 use crate::judge;
@@ -14,9 +15,13 @@ use crate::random::Random;
 
 /// One line, in the Rust reading.
 fn line(call: usize, bytes: &[u8], number: u32) {
+    line_by(RUST, call, bytes, number);
+}
+
+fn line_by(by: u32, call: usize, bytes: &[u8], number: u32) {
     let call = &CALLS[call];
     let number = if call.numbered { number } else { 0 };
-    judge::list(&Frame { call, by: RUST, bytes: bytes.to_vec(), number }, call.writes());
+    judge::list(&Frame { call, by, bytes: bytes.to_vec(), number }, call.writes());
 }
 
 /// A line for each of these calls.
@@ -62,6 +67,7 @@ pub fn list(random: &mut Random) {
     }
     counts(random);
     kept();
+    limits(random);
 }
 
 /// Every row, and codes and tags beside them.
@@ -189,6 +195,22 @@ fn counts(random: &mut Random) {
         }
     }
 }
+
+/// Nonces and HMACs around the limit of the standard reading, in each reading: whole, and cut behind the last length.
+fn limits(random: &mut Random) {
+    let row = known::row(0x131).expect("a row");
+    for (command, lengths) in [true, false].iter().flat_map(|&command| LIMITS.map(|lengths| (command, lengths))) {
+        let good = if command { make::command } else { make::response };
+        let entries = make::entries(command, 2, lengths, random);
+        let (all, cut) = (entries.bytes.len(), entries.lengths[3] + 2);
+        for (at, len) in [all, cut].into_iter().enumerate() {
+            let frame = good(&row, Some(&entries.bytes[..len]), &[1, 2], random);
+            READINGS.iter().for_each(|&by| line_by(by, named(walking(command)[at]), &frame, row.code));
+        }
+    }
+}
+
+const LIMITS: [(usize, usize); 3] = [(64, 64), (65, 0), (0, 65)];
 
 /// The real frames.
 fn kept() {

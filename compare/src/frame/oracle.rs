@@ -218,7 +218,7 @@ fn entries_of(mut area: &[u8], start: *const u8, command: bool) -> TpmResult<Ses
 }
 
 /// The entry at the start of an area, and what is behind it.
-pub fn entry_of(area: &[u8], start: *const u8, command: bool) -> TpmResult<(Session, &[u8])> {
+fn entry_of(area: &[u8], start: *const u8, command: bool) -> TpmResult<(Session, &[u8])> {
     let (handle, area) = if command { TpmUint32::unmarshal(area)? } else { (TpmUint32::new(0), area) };
     let (nonce, area) = Tpm2b::<{ u16::MAX as usize }>::cast_prefix(area)?;
     let Some((&attributes, area)) = area.split_first() else {

@@ -1,5 +1,5 @@
 //! Document 01's order of checks, written out, with what document 02 adds to it for the standard reading: the answer to a
-//! bad tag. It has an answer for every input, also where the crate has none.
+//! bad tag, and a limit on nonces and HMACs. It has an answer for every input, also where the crate has none.
 //!
 //! Each public function has the shape of our call: what is lent goes in, the number comes out, the array takes the rest; the
 //! parts come by value.
@@ -12,7 +12,7 @@ use super::known::{self, Row};
 use crate::calls::{self, Out};
 use crate::report::report;
 
-/// A refusal: its number and its fields, of which 1 and 6 have three and the others two.
+/// A refusal: its number and its fields, of which 1, 6 and 8 have three and the others two.
 struct Refusal(u32, [usize; 3]);
 
 type Read<T> = Result<T, Refusal>;
@@ -29,7 +29,7 @@ fn refusal(number: u32, offset: usize, value: usize) -> Refusal {
 fn tell<T, const N: usize>(read: Read<T>, values: impl FnOnce(T) -> [usize; N], out: &mut Out) -> u32 {
     match read {
         Ok(answer) => put(0, &values(answer), out),
-        Err(Refusal(number @ (1 | 6), fields)) => put(number, &fields, out),
+        Err(Refusal(number @ (1 | 6 | 8), fields)) => put(number, &fields, out),
         Err(Refusal(number, fields)) => put(number, &fields[..2], out),
     }
 }
@@ -68,6 +68,15 @@ impl Reading {
     /// Whether this is the tag of the answer to a bad tag, and of no other response.
     fn gives_to_bad_tag(self, tag: usize) -> bool {
         self == Self::Standard && tag == RSP_COMMAND
+    }
+
+    /// The most bytes of a nonce or an HMAC: in the standard reading those of the longest digest, in the Rust's as many as a
+    /// length can say.
+    fn longest(self) -> usize {
+        match self {
+            Self::Rust => u16::MAX.into(),
+            Self::Standard => 64,
+        }
     }
 }
 
@@ -265,7 +274,7 @@ fn first(s: &[u8]) -> Read<&[u8]> {
     prefix(s).map(|(frame, _)| frame)
 }
 
-/// A command, which both readings judge alike.
+/// A command up to its entries, which both readings judge alike.
 fn command_judged(by: u32, s: &[u8], taken: Taken) -> Read<&[u8]> {
     reading(by)?;
     let frame = taken(s)?;

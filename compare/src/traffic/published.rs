@@ -3,24 +3,43 @@
 //! words.
 
 use super::{Desks, ask_command, ask_response, read};
+use crate::answer::Hex;
 use crate::calls::{self, Frame, OFFSET, Out, Parts, RUST, Span};
 use crate::frame::{named, real};
 use std::path::Path;
 
+/// A row of the table.
+struct Published {
+    is_command: bool,
+    frame: Vec<u8>,
+    what: String,
+    result: String,
+}
+
+fn rows(file: &Path) -> Vec<Published> {
+    let row = |line| {
+        let [kind, hex, _, what, result] = <[String; 5]>::try_from(fields(line))
+            .unwrap_or_else(|row| panic!("a row of {} has no five columns: {row:?}", file.display()));
+        let frame = real::unhex(&hex).expect("the bytes are in hexadecimal");
+        Published { is_command: kind.ends_with("command"), frame, what, result }
+    };
+    read(file).lines().skip(1).map(row).collect()
+}
+
+pub fn commands(file: &Path) -> impl Iterator<Item = Vec<u8>> {
+    rows(file).into_iter().filter(|row| row.is_command).map(|row| row.frame)
+}
+
 pub fn check(desks: &mut Desks, file: &Path) {
-    let text = read(file);
     let (mut held, mut differ) = (0, 0);
-    for row in text.lines().skip(1).map(fields) {
-        let [kind, hex, _, what, result] = row.as_slice() else {
-            panic!("a row of {} has no five columns: {row:?}", file.display());
-        };
-        let frame = real::unhex(hex).expect("the bytes are in hexadecimal");
-        let ours = if kind.ends_with("command") { command(desks, &frame) } else { response(desks, &frame, what) };
+    for Published { is_command, frame, what, result } in rows(file) {
+        let ours = if is_command { command(desks, &frame) } else { response(desks, &frame, &what) };
         held += 1;
         if ours != result.trim_end() {
             differ += 1;
-            let call = named(if kind.ends_with("command") { "command_parts" } else { "response_parts" });
-            desks.read.tally(call).differs_in_all(&format!("{hex}: '{ours}', and published is '{result}'"));
+            let call = named(if is_command { "command_parts" } else { "response_parts" });
+            let how = format!("{}: '{ours}', and published is '{result}'", Hex(&frame));
+            desks.read.tally(call).differs_in_all(&how);
         }
     }
     assert!(held > 0, "there is no frame in {}", file.display());
@@ -86,7 +105,7 @@ fn answered(what: &str) -> u32 {
 }
 
 fn refusal(number: u32, out: &Out) -> String {
-    let fields = if matches!(number, 1 | 6) { 3 } else { 2 };
+    let fields = if matches!(number, 1 | 6 | 8) { 3 } else { 2 };
     let fields: Vec<String> = out[OFFSET..][..fields].iter().map(u64::to_string).collect();
     format!("{number}({})", fields.join(","))
 }

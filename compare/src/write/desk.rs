@@ -52,6 +52,12 @@ impl Desk {
         self.case.kind.modes().iter().for_each(|&by| self.ask_by(by));
     }
 
+    /// How many calls were made, and how many of them were refused because a length is beyond the limit.
+    pub fn calls(&self) -> (u64, u64) {
+        let tallies = || self.tallies.iter().flatten().flatten();
+        (tallies().map(Tally::calls).sum(), tallies().map(Tally::too_long).sum())
+    }
+
     /// Adds the counts of another desk.
     pub fn merge(&mut self, other: &Self) {
         let others = other.tallies.iter().flatten().flatten();

@@ -1,12 +1,12 @@
 //! Document 01's order of checks from "Command writer" on, written out, with what document 02 adds to it for the standard
-//! mode: the answer to a bad tag. It has an answer for every input.
+//! mode: the answer to a bad tag, and a limit on nonces and HMACs. It has an answer for every input.
 
 use crate::by::{MODES, READINGS};
-use crate::calls::{Field, Handed, Out, STANDARD_BAD_TAG, Session};
+use crate::calls::{Field, Handed, Out, RUST, STANDARD_BAD_TAG, Session};
 use crate::frame::known::{self, Row};
 use crate::report::report;
 
-/// A refusal: its number and its fields, of which 1, 6 and 9 have three and the others two.
+/// A refusal: its number and its fields, of which 1, 6, 8 and 9 have three and the others two.
 struct Refusal(u32, [u64; 3]);
 
 type Judged<T> = Result<T, Refusal>;
@@ -22,10 +22,20 @@ const SESSIONS: u16 = 0x8002;
 const RSP_COMMAND: u16 = 0x00C4;
 const BAD_TAG: u32 = 0x1E;
 
-/// Whether the tag of the answer to a bad tag is asked for: all that the modes differ in. A number that is none of a mode is
-/// refused before anything else.
-fn asks_bad_tag(by: u32, modes: &[u32]) -> Judged<bool> {
-    if modes.contains(&by) { Ok(by == STANDARD_BAD_TAG) } else { Err(refusal(101, [0, by.into()])) }
+/// All that the modes differ in.
+struct Mode {
+    /// Whether the tag of the answer to a bad tag is asked for.
+    asked: bool,
+    /// The most bytes of a nonce or an HMAC.
+    longest: u16,
+}
+
+/// The mode of a number; one that is none of a mode is refused before anything else.
+fn mode(by: u32, modes: &[u32]) -> Judged<Mode> {
+    if !modes.contains(&by) {
+        return Err(refusal(101, [0, by.into()]));
+    }
+    Ok(Mode { asked: by == STANDARD_BAD_TAG, longest: if by == RUST { u16::MAX } else { 64 } })
 }
 
 /// What the two kinds of frame differ in.
@@ -35,6 +45,8 @@ struct Shape {
     handles: usize,
     /// How many bytes of handle an entry has.
     width: usize,
+    /// The most bytes of a nonce or an HMAC.
+    longest: u16,
 }
 
 // ---- the order of checks
@@ -45,7 +57,7 @@ pub fn command_write(by: u32, tag: u16, cc: u32, given: Handed, room: &mut [u8],
 }
 
 fn command(by: u32, tag: u16, cc: u32, given: &Handed) -> Judged<Shape> {
-    asks_bad_tag(by, READINGS)?;
+    let longest = mode(by, READINGS)?.longest;
     let n = given.sessions.count;
     if tag != PLAIN && tag != SESSIONS {
         return Err(refusal(3, [0, tag.into()]));
@@ -54,7 +66,7 @@ fn command(by: u32, tag: u16, cc: u32, given: &Handed) -> Judged<Shape> {
         return Err(refusal(3, [0, tag.into()]));
     }
     at_most_three(n)?;
-    Ok(Shape { tag, handles: row(cc)?.handles, width: 4 })
+    Ok(Shape { tag, handles: row(cc)?.handles, width: 4, longest })
 }
 
 pub fn response_write(by: u32, rc: u32, cc: u32, given: Handed, room: &mut [u8], out: &mut Out) -> u32 {
@@ -67,7 +79,7 @@ pub fn response_write(by: u32, rc: u32, cc: u32, given: Handed, room: &mut [u8],
 }
 
 fn response(by: u32, rc: u32, cc: u32, given: &Handed) -> Judged<Shape> {
-    let asked = asks_bad_tag(by, MODES)?;
+    let Mode { asked, longest } = mode(by, MODES)?;
     let n = given.sessions.count;
     at_most_three(n)?;
     let handles = row(cc)?.responses;
@@ -86,7 +98,7 @@ fn response(by: u32, rc: u32, cc: u32, given: &Handed) -> Judged<Shape> {
         0 => PLAIN,
         _ => SESSIONS,
     };
-    Ok(Shape { tag, handles, width: 0 })
+    Ok(Shape { tag, handles, width: 0, longest })
 }
 
 fn at_most_three(n: usize) -> Judged<()> {
@@ -107,8 +119,8 @@ fn total(shape: &Shape, given: &Handed, room: usize) -> Judged<usize> {
         return Err(refusal(2, [asked, handles - asked]));
     }
     for session in looked_at(given) {
-        there(session.nonce, given.lent)?;
-        there(session.hmac, given.lent)?;
+        there(session.nonce, shape.longest, given.lent)?;
+        there(session.hmac, shape.longest, given.lent)?;
     }
     let size_field = if shape.tag == SESSIONS { 4 } else { 0 };
     let entries = entries_size(given, shape.width) as u128;
@@ -124,8 +136,11 @@ fn looked_at<'a>(given: &'a Handed) -> &'a [Session] {
     &given.sessions.three[..given.sessions.count]
 }
 
-/// A nonce or an HMAC within the lent bytes.
-fn there(field: Field, lent: &[u8]) -> Judged<()> {
+/// A nonce or an HMAC of at most so many bytes, within the lent ones.
+fn there(field: Field, longest: u16, lent: &[u8]) -> Judged<()> {
+    if field.size > longest {
+        return Err(Refusal(8, [0, longest.into(), field.size.into()]));
+    }
     let end = field.at as u128 + u128::from(field.size);
     if end <= lent.len() as u128 {
         return Ok(());
@@ -148,7 +163,7 @@ fn tell(written: Judged<usize>, out: &mut Out) -> u32 {
     match written {
         Ok(total) => report(0, [total as u64], out),
         Err(Refusal(number, fields)) => {
-            let count = if matches!(number, 1 | 6 | 9) { 3 } else { 2 };
+            let count = if matches!(number, 1 | 6 | 8 | 9) { 3 } else { 2 };
             report(number, fields.into_iter().take(count), out)
         }
     }

@@ -1,4 +1,5 @@
 pub mod Arrays
+pub mod Fields
 pub mod Laid
 pub mod Numbered
 pub mod Reported

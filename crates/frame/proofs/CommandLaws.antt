@@ -8,7 +8,7 @@ use native.Mathlib.Nat.{le-refl}
 use native.Mathlib.Omega.{arith}
 use borrow.Author.Tests.{le-leb}
 use lib.Dec.{eqb, leb}
-use lib.ListN.{length, take, drop}
+use lib.ListN.{length, take, drop, length-take}
 use lib.Seq.{length-take-le}
 use Rattle.base.specs.Bytes.{AreBytes}
 use Rattle.base.specs.Members.{isIn}
@@ -28,7 +28,7 @@ use Rattle.frame.specs.Areas.{sizedArea}
 use Rattle.frame.specs.Command.{Division, commandHandles, commandAreas, judgeCommand, castCommand, readCommand, handlesRange, authRange, parametersRange}
 use Rattle.frame.specs.Header.{tagOf, sizeOf, codeOf, sessions, isOfTwo, readCc, frameWhole, readCommandTag}
 use Rattle.frame.specs.Layout.{Frame, WholeEntries, WellFormed, CommandParts, layoutEntries, layoutBody, layoutFrame, layoutCommand}
-use Rattle.frame.specs.Parts.{ranged, entriesIn, entriesOf, told, commandParts}
+use Rattle.frame.specs.Parts.{ranged, Kept, EachField, entriesIn, entriesOf, told, commandParts}
 use Rattle.frame.specs.Rules.{Rulebook}
 use Rattle.frame.specs.Walk.{walk, byValue}
 use Rattle.frame.proofs.Divides.{Divides, divides-by-value}
@@ -55,7 +55,7 @@ use Rattle.frame.proofs.FrameLaws.{
   sized-complete,
 }
 use Rattle.frame.proofs.Standing.{between-at, at-between, at-within, at-inside, length-entries}
-use Rattle.frame.proofs.WalkLaws.{walk-sound, walk-few, walk-complete, walk-within, walk-end}
+use Rattle.frame.proofs.WalkLaws.{walk-sound, walk-few, walk-complete, walk-within, walk-end, each-field, walk-inside}
 
 module _ (book : Rulebook) where
   -- the steps of a reading that passed
@@ -69,14 +69,14 @@ module _ (book : Rulebook) where
     has-row : rowFor (book .rows) (codeOf s) ≡ gives row
     room : 10 + 4 * row .handles ≤ length s
     sized : sizedArea (eqb (tagOf s) sessions) (10 + 4 * row .handles) s (10 + 4 * row .handles) ≡ gives (d .areas)
-    walked : walk 3 4 (take (d .areas .to) s) (d .areas .from) ≡ gives (d .entries)
+    walked : walk (book .longest) 3 4 (take (d .areas .to) s) (d .areas .from) ≡ gives (d .entries)
 
   steps-taken : (s : List ℕ) (d : Division) → readCommand book s ≡ gives d → Steps s d
   unfolding readCommand castCommand judgeCommand commandAreas commandHandles readCc
   steps-taken s d e =
       let read = then-gives (castCommand book s) _ e in
       let areas : Areas = read .0 in
-      let walked = then-gives (walk 3 4 (take (areas .to) s) (areas .from)) _ (read .2) in
+      let walked = then-gives (walk (book .longest) 3 4 (take (areas .to) s) (areas .from)) _ (read .2) in
       let cast = then-gives (frameWhole s) _ (read .1) in
       let judged = then-gives (readCommandTag s) _ (cast .2) in
       let handled = then-gives (commandHandles book s) _ (judged .2) in
@@ -123,7 +123,7 @@ module _ (book : Rulebook) where
   parts s d = told s (tagOf s) (codeOf s) ((frameOf commandOf s d) .handles) ((frameOf commandOf s d) .parameters) (d .entries)
 
   all-entries : (s : List ℕ) (d : Division) → Steps s d → entriesOf (byValue (d .entries)) ≡ d .entries
-  all-entries s d t = entries-of (d .entries) (walk-few 3 4 (take (d .areas .to) s) (d .areas .from) (t .walked))
+  all-entries s d t = entries-of (d .entries) (walk-few (book .longest) 3 4 (take (d .areas .to) s) (d .areas .from) (t .walked))
 
   parts-told : (s : List ℕ) (d : Division) → readCommand book s ≡ gives d → commandParts s (frameOf commandOf s d) ≡ parts s d
   unfolding commandParts
@@ -141,7 +141,7 @@ module _ (book : Rulebook) where
       let room = t .room in
       let ends = plain-places h h s (rw q at (t .sized)) in
       let short : length (take to s) ≡ to = length-take-le to s (omega arith) in
-      let walked : gives (d .entries) ≡ gives [] = sym (t .walked) ∙ walk-end 3 4 (take to s) (d .areas .from) (omega arith) in
+      let walked : gives (d .entries) ≡ gives [] = sym (t .walked) ∙ walk-end (book .longest) 3 4 (take to s) (d .areas .from) (omega arith) in
       ap (entriesIn s) (gives-injective walked)
 
   module _ (s : List ℕ) (p : AreBytes s) (d : Division) (t : Steps s d) where
@@ -154,15 +154,15 @@ module _ (book : Rulebook) where
     -- the entries stand in the sized bytes and fill them
     entries-stand : At s (d .areas .from) (layoutEntries 4 (entriesIn s (d .entries)))
         × (d .areas .from + length (layoutEntries 4 (entriesIn s (d .entries))) ≡ d .areas .to)
-        × WholeEntries 4 (entriesIn s (d .entries))
+        × WholeEntries (book .longest) 4 (entriesIn s (d .entries))
     entries-stand =
         let from : ℕ = d .areas .from in
         let to : ℕ = d .areas .to in
         let order = places-order in
         let short : length (take to s) ≡ to = length-take-le to s (order .3) in
         let inside : from ≤ length (take to s) = rw short (order .2) in
-        let within : entriesIn (take to s) (d .entries) ≡ entriesIn s (d .entries) = walk-within 3 4 to s from inside (t .walked) in
-        let walked = rw within at (walk-sound 3 4 (take to s) from (are-bytes-take to s p) inside (t .walked)) in
+        let within : entriesIn (take to s) (d .entries) ≡ entriesIn s (d .entries) = walk-within (book .longest) 3 4 to s from inside (t .walked) in
+        let walked = rw within at (walk-sound (book .longest) 3 4 (take to s) from (are-bytes-take to s p) inside (t .walked)) in
         (at-within to s (walked .0), walked .1 ∙ short, walked .2)
 
   pub command-sound : (s : List ℕ) → AreBytes s → (d : Division) → readCommand book s ≡ gives d
@@ -194,7 +194,7 @@ module _ (book : Rulebook) where
             handle-bytes = are-bytes-take (d .areas .handles - 10) (drop 10 s) (are-bytes-drop 10 s p);
             handle-count = omega (arith, handles .1);
             whole-entries = stand .2;
-            three-entries = rw length-entries (walk-few 3 4 (take to s) (d .areas .from) (t .walked));
+            three-entries = rw length-entries (walk-few (book .longest) 3 4 (take to s) (d .areas .from) (t .walked));
             plain-entries = plain-walk s d t;
             parameter-bytes = are-bytes-take (length s - to) (drop to s) (are-bytes-drop to s p);
           };
@@ -214,6 +214,18 @@ module _ (book : Rulebook) where
       let stand = entries-stand s p d t in
       subst (λ (c : Command). heldAt (c .auth) s ≡ layoutEntries 4 (commandParts s c .entries)) (gives-injective (read .2))
       (between-at (d .areas .to) (stand .0) (stand .1) ∙ ap (λ (es : List Session). layoutEntries 4 (entriesIn s es)) (sym (all-entries s d t)))
+
+  -- the nonces and HMACs that are given back are within the limit, and lie within the frame
+  pub command-fields : (s : List ℕ) (c : Command) → commandByValue s (readCommand book s) ≡ gives c
+      → EachField (Kept (book .longest) (length s)) (entriesOf (c .entries))
+  command-fields s c e =
+      let read = then-gives (readCommand book s) _ e in
+      let d : Division = read .0 in
+      let t = steps-taken s d (read .1) in
+      let short = length-take (d .areas .to) s in
+      let kept = walk-inside (book .longest) 3 4 (take (d .areas .to) s) (d .areas .from) (t .walked) in
+      subst (λ (c : Command). EachField (Kept (book .longest) (length s)) (entriesOf (c .entries))) (gives-injective (read .2))
+      (rw (all-entries s d t) (each-field (λ f k. let end = k .1 in (k .0, omega arith)) (d .entries) kept))
 
   -- the three reads of one area give the areas of a passing command
   pub command-ranges : (s : List ℕ) (c : Command) → commandByValue s (readCommand book s) ≡ gives c
@@ -235,16 +247,16 @@ module _ (book : Rulebook) where
 
   module _ (holds : (code : ℕ) (r : Row) → rowFor (book .rows) code ≡ gives r → isIn code (book .known) ≡ true)
       (two-tags : (tag : ℕ) → isOfTwo tag ≡ true → isIn tag tags ≡ true) where
-    module _ (f : Frame) (row : Row) (found : rowFor (book .rows) (f .code) ≡ gives row) (w : WellFormed 4 (row .handles) f) (s : List ℕ)
+    module _ (f : Frame) (row : Row) (found : rowFor (book .rows) (f .code) ≡ gives row) (w : WellFormed (book .longest) 4 (row .handles) f) (s : List ℕ)
         (framed : Framed s (f .tag) (f .code) (layoutBody (f .tag) (f .handles) (layoutEntries 4 (f .entries)) (f .parameters))) where
       module _ (areas : Areas) (held : Holds s areas (f .handles) (layoutEntries 4 (f .entries)) (f .parameters))
           (sized : sizedArea (eqb (f .tag) sessions) (10 + 4 * row .handles) s (10 + 4 * row .handles) ≡ gives areas) where
         -- from where the parts stand to the division
-        with-entries : (ds : List Session) → walk 3 4 (take (areas .to) s) (areas .from) ≡ gives ds
+        with-entries : (ds : List Session) → walk (book .longest) 3 4 (take (areas .to) s) (areas .from) ≡ gives ds
             → areas .from ≤ length (take (areas .to) s) → entriesIn (take (areas .to) s) ds ≡ f .entries
             → (d : Division) × (readCommand book s ≡ gives d) × (parts s d ≡ f)
         with-entries ds walked inside same =
-            let within : entriesIn (take (areas .to) s) ds ≡ entriesIn s ds = walk-within 3 4 (areas .to) s (areas .from) inside walked in
+            let within : entriesIn (take (areas .to) s) ds ≡ entriesIn s ds = walk-within (book .longest) 3 4 (areas .to) s (areas .from) inside walked in
             let d : Division = record { areas = areas; entries = ds } in
             let tag : tagOf s ≡ f .tag = framed .tag-is in
             let code : codeOf s ≡ f .code = framed .code-is in (
@@ -277,7 +289,7 @@ module _ (book : Rulebook) where
             let short : length (take to s) ≡ to = length-take-le to s (omega arith) in
             let ends : from + length (layoutEntries 4 (f .entries)) ≡ length (take to s) = held .sized-end ∙ sym short in
             let entries-at = at-inside to s (omega arith) (held .sized-at) in
-            let walked = walk-complete 3 4 (take to s) from (f .entries) (w .whole-entries) (w .three-entries) entries-at ends in
+            let walked = walk-complete (book .longest) 3 4 (take to s) from (f .entries) (w .whole-entries) (w .three-entries) entries-at ends in
             with-entries (walked .0) (walked .1) (omega arith) (walked .2)
 
     pub command-complete : (f : Frame) → CommandParts book f

@@ -1,6 +1,6 @@
 -- The cases of the areas and of the reads of commands and responses, each from the tests that lead to it.
 -- Assumes nothing.
-use mathlib.Core.Path.{_≡_, refl, sym, _∙_, ap}
+use mathlib.Core.Path.{_≡_, refl, sym, _∙_, ap, subst}
 use mathlib.Core.Bool.{Bool, true, false, _||_, cond}
 use mathlib.Core.List.{List, [], _∷_}
 use Prim.Native.Nat.{ℕ, _+_, _-_, _*_, _≤_, _<_}
@@ -24,9 +24,13 @@ use Rattle.frame.specs.Command.{Division, commandHandles, commandAreas, 
 use Rattle.frame.specs.Header.{tagOf, codeOf, sessions, plain, isRspCommand, readCc, frameWhole, readCommandTag}
 use Rattle.frame.specs.Parts.{entriesOf}
 use Rattle.frame.specs.Response.{castResponse, errorAreas, successAreas, responseAreas}
-use Rattle.frame.specs.Rules.{Rulebook}
+use Rattle.frame.specs.declared.rules.Reading.{Reading}
+use Rattle.frame.specs.declared.rules.Reading.the-variants as reading
+use Rattle.frame.specs.declared.rules.Rules.{Rules}
+use Rattle.frame.specs.Rules.{Rulebook, unlimited, longestOf, bookOf}
 use Rattle.frame.specs.Walk.{walk, byValue}
 use Rattle.frame.proofs.FrameLaws.{sized-order, two-tags}
+use Rattle.frame.proofs.WalkLaws.{walk-same}
 use Rattle.frame.proofs.Walks.{field-there, step-refused, step-given}
 use Rattle.frame.proofs.Headers.{command-tag-is, whole-fits}
 
@@ -179,14 +183,23 @@ module _ (book : Rulebook) (s : List ℕ) where
 
 -- ---- the full check: areas and then a walk, of either kind
 
-abbrev pub commandEntries : List ℕ → Areas → Said (List Session)
-commandEntries s a = walk 3 4 (take (a .to) s) (a .from)
+abbrev pub commandEntries : ℕ → List ℕ → Areas → Said (List Session)
+commandEntries limit s a = walk limit 3 4 (take (a .to) s) (a .from)
 
-abbrev pub responseEntries : List ℕ → Areas → Said (List Session)
-responseEntries s a = walk 3 0 s (a .to)
+abbrev pub responseEntries : ℕ → List ℕ → Areas → Said (List Session)
+responseEntries limit s a = walk limit 3 0 s (a .to)
+
+-- no rules have a limit above what a length can say, so what a walk passed by them it passes with none
+pub longest-below : (by : Reading) → longestOf by ≤ unlimited
+longest-below reading.Rust = omega arith
+longest-below reading.Standard = omega arith
+
+pub without-limit : (rules : Rules) (k width : ℕ) (s : List ℕ) (place : ℕ) → done (walk (bookOf rules .longest) k width s place) ≡ gives tt
+    → walk unlimited k width s place ≡ walk (bookOf rules .longest) k width s place
+without-limit rules k width s place = walk-same (bookOf rules .longest) unlimited k width s place (longest-below (rules .reading))
 
 module _ (areas : Said Areas) (entries : Areas → Said (List Session)) where
-  abbrev divided : Said Division
+  abbrev pub divided : Said Division
   divided = then areas λ a. then (entries a) λ es. gives (record { areas = a; entries = es })
 
   pub areas-refused : {why : List ℕ} → refuses why ≡ areas → refuses why ≡ divided
@@ -213,6 +226,17 @@ module _ (areas : Said Areas) (entries : Areas → Said (List Session)) where
       let es = then-gives (entries (found .0)) _ (found .2) in
       let is : a ≡ found .0 = d .2 ∙ ap (λ (d : Division). d .areas) (sym (gives-injective (es .2))) in
       (ap gives is ∙ sym (found .1), ap (λ (a : Areas). done (entries a)) is ∙ ap done (es .1))
+
+-- areas and entries of what was divided; and another walk that tells the same entries divides it the same
+module _ (areas : Said Areas) (entries : Areas → Said (List Session)) {d : Division} (e : divided areas entries ≡ gives d) where
+  pub both-told : (areas ≡ gives (d .areas)) × (entries (d .areas) ≡ gives (d .entries))
+  both-told =
+      let found = then-gives areas _ e in
+      let es = then-gives (entries (found .0)) _ (found .2) in
+      subst (λ (d : Division). (areas ≡ gives (d .areas)) × (entries (d .areas) ≡ gives (d .entries))) (gives-injective (es .2)) (found .1, es .1)
+
+  pub walked-by : (other : Areas → Said (List Session)) → other (d .areas) ≡ gives (d .entries) → divided areas other ≡ gives d
+  walked-by other walked = rw (both-told .0, walked) refl
 
 -- a read by what is told of its areas
 module _ (read : Said Division) where

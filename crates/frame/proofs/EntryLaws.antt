@@ -18,7 +18,7 @@ use Rattle.base.proofs.Places.{At, at-moved, at-first, at-second, at-both, at-r
 use Rattle.base.proofs.Tpm2b.{length-tpm2b}
 use Rattle.frame.specs.declared.session.Session.{Session}
 use Rattle.frame.specs.Layout.{Entry, layoutEntry, WholeEntry}
-use Rattle.frame.specs.Parts.{entryIn}
+use Rattle.frame.specs.Parts.{entryIn, NoLonger, Kept}
 use Rattle.frame.specs.Walk.{readTpm2b, readSigned, readEntry, behind}
 
 -- ---- a number of w bytes
@@ -42,20 +42,23 @@ module _ (w : ℕ) (s : List ℕ) (place : ℕ) where
       let there : take w (drop place s) ≡ bytes w n = rw length-bytes at (a .there) in
       simp (le-leb w (length s - place) (omega arith)) (ap gives (ap number there ∙ number-bytes w n h))
 
--- ---- a TPM2B
+-- ---- a TPM2B within a limit
 
-module _ (s : List ℕ) (place : ℕ) where
-  -- what is read is the size, and that many bytes stand behind it
-  pub tpm2b-fits : {n : ℕ} → readTpm2b s place ≡ gives n → (readField 2 place s ≡ gives n) × (place + 2 + n ≤ length s)
+module _ (limit : ℕ) (s : List ℕ) (place : ℕ) where
+  -- what is read is the size, it is within the limit, and that many bytes stand behind it
+  pub tpm2b-fits : {n : ℕ} → readTpm2b limit s place ≡ gives n → (readField 2 place s ≡ gives n) × (place + 2 + n ≤ length s) × (n ≤ limit)
   unfolding readTpm2b
   tpm2b-fits {n} e =
       let size = then-gives (readField 2 place s) _ e in
-      let whole = needs-gives (leb (2 + size .0) (length s - place)) _ _ (size .2) in
+      let short = needs-gives (leb (size .0) limit) _ _ (size .2) in
+      let whole = needs-gives (leb (2 + size .0) (length s - place)) _ _ (short .1) in
+      let within = leb-true (size .0) limit (short .0) in
       let fits = leb-true (2 + size .0) (length s - place) (whole .0) in
       let is : size .0 ≡ n = gives-injective (whole .1) in
-      (size .1 ∙ ap gives is, omega arith)
+      (size .1 ∙ ap gives is, omega arith, omega arith)
 
-  pub tpm2b-sound : {n : ℕ} → AreBytes s → readTpm2b s place ≡ gives n → At s place (tpm2b (take n (drop (place + 2) s))) × (n < 65536)
+  pub tpm2b-sound : {n : ℕ} → AreBytes s → readTpm2b limit s place ≡ gives n
+      → At s place (tpm2b (take n (drop (place + 2) s))) × (n < 65536) × (n ≤ limit)
   tpm2b-sound {n} b e =
       let fits = tpm2b-fits e in
       let inside = fits .1 in
@@ -64,16 +67,25 @@ module _ (s : List ℕ) (place : ℕ) where
       let long : length t ≡ n = length-read s (place + 2) n inside in (
         at-both {x = bytes 2 (length t)} {y = t} (rw long (size .0)) (rw length-bytes (at-read s (place + 2) n inside)),
         size .1,
+        fits .2,
       )
 
-  pub tpm2b-complete : (t : List ℕ) → length t < 65536 → At s place (tpm2b t)
-      → (readTpm2b s place ≡ gives (length t)) × (take (length t) (drop (place + 2) s) ≡ t)
+  -- by another limit, that the size is within, it is read the same
+  pub tpm2b-by : (other : ℕ) {n : ℕ} → readTpm2b limit s place ≡ gives n → n ≤ other → readTpm2b other s place ≡ gives n
   unfolding readTpm2b
-  tpm2b-complete t h a =
+  tpm2b-by other {n} e few =
+      let fits = tpm2b-fits e in
+      let inside = fits .1 in
+      rw (fits .0) (simp (le-leb n other few, le-leb (2 + n) (length s - place) (omega arith)))
+
+  pub tpm2b-complete : (t : List ℕ) → length t < 65536 → length t ≤ limit → At s place (tpm2b t)
+      → (readTpm2b limit s place ≡ gives (length t)) × (take (length t) (drop (place + 2) s) ≡ t)
+  unfolding readTpm2b
+  tpm2b-complete t h few a =
       let inside : place + (2 + length t) ≤ length s = rw length-tpm2b at (a .inside) in
       let size = field-complete 2 s place (length t) h (at-first (bytes 2 (length t)) t a) in
       let there = at-second (bytes 2 (length t)) t a in
-      (rw size (simp (le-leb (2 + length t) (length s - place) (omega arith))), rw length-bytes at (there .there))
+      (rw size (simp (le-leb (length t) limit few, le-leb (2 + length t) (length s - place) (omega arith))), rw length-bytes at (there .there))
 
 -- ---- an entry
 
@@ -81,12 +93,12 @@ pub length-entry : (width : ℕ) (x : Entry) → length (layoutEntry width x) �
 length-entry width x = simp (length-append, length-bytes) (omega arith)
 
 -- the entry that is told at a place stands there, ends where it says, and is whole
-pub record Stands (width : ℕ) (s : List ℕ) (place : ℕ) (e : Session) : Type 0 where
+pub record Stands (limit width : ℕ) (s : List ℕ) (place : ℕ) (e : Session) : Type 0 where
   pub there : At s place (layoutEntry width (entryIn s e))
   pub ends : place + length (layoutEntry width (entryIn s e)) ≡ behind e
-  pub whole : WholeEntry width (entryIn s e)
+  pub whole : WholeEntry limit width (entryIn s e)
 
-module _ (width : ℕ) (s : List ℕ) (place : ℕ) where
+module _ (limit width : ℕ) (s : List ℕ) (place : ℕ) where
   abbrev told : ℕ → ℕ → ℕ → ℕ → Session
   told handle nonce attributes hmac = record {
     handle = handle;
@@ -102,18 +114,18 @@ module _ (width : ℕ) (s : List ℕ) (place : ℕ) where
     attributes : ℕ
     hmac : ℕ
     handle-read : readField width place s ≡ gives handle
-    nonce-read : readTpm2b s (place + width) ≡ gives nonce
+    nonce-read : readTpm2b limit s (place + width) ≡ gives nonce
     attributes-read : readField 1 (place + width + 2 + nonce) s ≡ gives attributes
-    hmac-read : readTpm2b s (place + width + 2 + nonce + 1) ≡ gives hmac
+    hmac-read : readTpm2b limit s (place + width + 2 + nonce + 1) ≡ gives hmac
     is-told : told handle nonce attributes hmac ≡ e
 
-  entry-read : {e : Session} → readEntry width s place ≡ gives e → Read e
+  entry-read : {e : Session} → readEntry limit width s place ≡ gives e → Read e
   unfolding readEntry readSigned
   entry-read e =
       let h = then-gives (readField width place s) _ e in
-      let n = then-gives (readTpm2b s (place + width)) _ (h .2) in
+      let n = then-gives (readTpm2b limit s (place + width)) _ (h .2) in
       let a = then-gives (readField 1 (place + width + 2 + n .0) s) _ (n .2) in
-      let m = then-gives (readTpm2b s (place + width + 2 + n .0 + 1)) _ (a .2) in
+      let m = then-gives (readTpm2b limit s (place + width + 2 + n .0 + 1)) _ (a .2) in
       record {
         handle = h .0;
         nonce = n .0;
@@ -126,45 +138,65 @@ module _ (width : ℕ) (s : List ℕ) (place : ℕ) where
         is-told = gives-injective (m .2);
       }
 
-  -- what is read of an entry stays inside
-  pub entry-inside : {e : Session} → readEntry width s place ≡ gives e → (e .nonce .at + e .nonce .size ≤ length s) × (behind e ≤ length s)
+  -- an entry that is read starts before the end
+  pub entry-starts : {e : Session} → readEntry limit width s place ≡ gives e → place < length s
+  entry-starts e =
+      let r = entry-read e in
+      let inside = tpm2b-fits limit s (place + width) (r .nonce-read) .1 in
+      omega arith
+
+  -- its nonce and its HMAC are within the limit, and stay inside
+  pub entry-inside : {e : Session} → readEntry limit width s place ≡ gives e
+      → Kept limit (length s) (e .nonce) × Kept limit (length s) (e .hmac)
   entry-inside e =
       let r = entry-read e in
-      let n = tpm2b-fits s (place + width) (r .nonce-read) in
-      let m = tpm2b-fits s (place + width + 2 + r .nonce + 1) (r .hmac-read) in
-      subst (λ (e : Session). (e .nonce .at + e .nonce .size ≤ length s) × (behind e ≤ length s)) (r .is-told) (n .1, m .1)
+      let n = tpm2b-fits limit s (place + width) (r .nonce-read) in
+      let m = tpm2b-fits limit s (place + width + 2 + r .nonce + 1) (r .hmac-read) in
+      subst (λ (e : Session). Kept limit (length s) (e .nonce) × Kept limit (length s) (e .hmac)) (r .is-told) ((n .2, n .1), (m .2, m .1))
 
-  pub entry-sound : {e : Session} → AreBytes s → place ≤ length s → readEntry width s place ≡ gives e → Stands width s place e
+  -- by another limit, that both are within, it is read the same
+  pub entry-by : (other : ℕ) {e : Session} → readEntry limit width s place ≡ gives e → NoLonger other (e .nonce) → NoLonger other (e .hmac)
+      → readEntry other width s place ≡ gives e
+  unfolding readEntry readSigned
+  entry-by other {e} read few less =
+      let r = entry-read read in
+      let nonce-is : r .nonce ≡ e .nonce .size = ap (λ (e : Session). e .nonce .size) (r .is-told) in
+      let hmac-is : r .hmac ≡ e .hmac .size = ap (λ (e : Session). e .hmac .size) (r .is-told) in
+      let nonce = tpm2b-by limit s (place + width) other (r .nonce-read) (omega arith) in
+      let hmac = tpm2b-by limit s (place + width + 2 + r .nonce + 1) other (r .hmac-read) (omega arith) in
+      rw (r .handle-read, nonce, r .attributes-read, hmac) (ap gives (r .is-told))
+
+  pub entry-sound : {e : Session} → AreBytes s → place ≤ length s → readEntry limit width s place ≡ gives e → Stands limit width s place e
   entry-sound b h e =
       let r = entry-read e in
       let p = place + width in
       let q = p + 2 + r .nonce in
       let x = entryIn s (told (r .handle) (r .nonce) (r .attributes) (r .hmac)) in
-      let few = tpm2b-fits s p (r .nonce-read) .1 in
-      let less = tpm2b-fits s (q + 1) (r .hmac-read) .1 in
+      let few = tpm2b-fits limit s p (r .nonce-read) .1 in
+      let less = tpm2b-fits limit s (q + 1) (r .hmac-read) .1 in
       let handle = field-sound width s place b h (r .handle-read) in
-      let nonce = tpm2b-sound s p b (r .nonce-read) in
+      let nonce = tpm2b-sound limit s p b (r .nonce-read) in
       let attributes = field-sound 1 s q b (omega arith) (r .attributes-read) in
-      let hmac = tpm2b-sound s (q + 1) b (r .hmac-read) in
+      let hmac = tpm2b-sound limit s (q + 1) b (r .hmac-read) in
       let long : length (x .nonce) ≡ r .nonce = length-read s (p + 2) (r .nonce) few in
       let wide : length (x .hmac) ≡ r .hmac = length-read s (q + 1 + 2) (r .hmac) less in
       let size = length-tpm2b (x .nonce) in
       let byte : At s q (r .attributes ∷ []) = rw (one-byte (r .attributes) (attributes .1)) (attributes .0) in
       let last : At s q (r .attributes ∷ tpm2b (x .hmac)) = at-both byte (hmac .0) in
       let next : At s p (tpm2b (x .nonce) ++ (r .attributes ∷ tpm2b (x .hmac))) = at-both (nonce .0) (at-moved (omega arith) last) in
-      subst (Stands width s place) (r .is-told) (record {
+      subst (Stands limit width s place) (r .is-told) (record {
         there = at-both (handle .0) (rw length-bytes next);
         ends = rw length-entry (omega arith);
         whole = (
           handle .1,
-          (are-bytes-take (r .nonce) _ (are-bytes-drop (p + 2) s b), rw long (nonce .1)),
+          (are-bytes-take (r .nonce) _ (are-bytes-drop (p + 2) s b), rw long (nonce .1), rw long (nonce .2)),
           attributes .1,
-          (are-bytes-take (r .hmac) _ (are-bytes-drop (q + 1 + 2) s b), rw wide (hmac .1)),
+          (are-bytes-take (r .hmac) _ (are-bytes-drop (q + 1 + 2) s b), rw wide (hmac .1), rw wide (hmac .2)),
         );
       })
 
-  pub entry-complete : (x : Entry) → WholeEntry width x → At s place (layoutEntry width x)
-      → (e : Session) × (readEntry width s place ≡ gives e) × (entryIn s e ≡ x) × (place + length (layoutEntry width x) ≡ behind e)
+  pub entry-complete : (x : Entry) → WholeEntry limit width x → At s place (layoutEntry width x)
+      → (e : Session) × (readEntry limit width s place ≡ gives e) × (entryIn s e ≡ x) × (place + length (layoutEntry width x) ≡ behind e)
   unfolding readEntry readSigned
   entry-complete x w a =
       let p = place + width in
@@ -176,9 +208,9 @@ module _ (width : ℕ) (s : List ℕ) (place : ℕ) where
       let last : At s q (x .attributes ∷ m) = at-moved (omega arith) (at-second n (x .attributes ∷ m) next) in
       let byte = at-first (x .attributes ∷ []) m last in
       let handle = field-complete width s place (x .handle) (w .0) (at-first (bytes width (x .handle)) _ a) in
-      let nonce = tpm2b-complete s p (x .nonce) (w .1 .1) (at-first n _ next) in
+      let nonce = tpm2b-complete limit s p (x .nonce) (w .1 .1) (w .1 .2) (at-first n _ next) in
       let attributes = field-complete 1 s q (x .attributes) (w .2) (rw (← one-byte (x .attributes) (w .2)) byte) in
-      let hmac = tpm2b-complete s (q + 1) (x .hmac) (w .3 .1) (at-second (x .attributes ∷ []) m last) in (
+      let hmac = tpm2b-complete limit s (q + 1) (x .hmac) (w .3 .1) (w .3 .2) (at-second (x .attributes ∷ []) m last) in (
         told (x .handle) (length (x .nonce)) (x .attributes) (length (x .hmac)),
         rw (handle, nonce .0, attributes, hmac .0),
         (λ i. record { handle = x .handle; nonce = nonce .1 i; attributes = x .attributes; hmac = hmac .1 i }),

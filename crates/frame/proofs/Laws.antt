@@ -9,6 +9,7 @@ use Prim.Native.Nat.{ℕ}
 use borrow.Fn.Kinds.{PK, RK, Out, Dens, resT, endedOf}
 use contract.Lifetimes.{Lfts}
 use denote.Ref.{now}
+use lib.ListN.{length}
 use denote.Triple.Clauses.{Lasts, atExit}
 use Rattle.base.specs.declared.answer.Outcome.the-variants as outcome
 use Rattle.base.specs.Bytes.{AreBytes}
@@ -16,6 +17,7 @@ use Rattle.base.specs.Parts.{heldAt}
 use Rattle.base.specs.Members.{isIn}
 use Rattle.base.specs.Said.{gives}
 use Rattle.table.specs.Dispatch.{dispatch, commandCodes}
+use Rattle.frame.specs.declared.rules.Reading.the-variants as reading
 use Rattle.frame.specs.declared.rules.Rules.{Rules}
 use Rattle.table.specs.Table.{rowFor}
 use Rattle.table.specs.declared.row.Row.{Row}
@@ -27,7 +29,7 @@ use Rattle.frame.specs.declared.response.ResponseRead.the-variants as re
 use Rattle.frame.specs.Answer.{commandOf, responseOf, frameOf, commandByValue, responseByValue, saidCommand, saidResponse}
 use Rattle.frame.specs.Command.{readCommand, handlesRange, authRange, parametersRange}
 use Rattle.frame.specs.Layout.{Frame, CommandParts, ResponseParts, layoutEntries, layoutCommand, layoutResponse}
-use Rattle.frame.specs.Parts.{ranged, commandParts, responseParts}
+use Rattle.frame.specs.Parts.{ranged, Kept, EachField, entriesOf, commandParts, responseParts}
 use Rattle.frame.specs.Response.{readResponse}
 use Rattle.frame.specs.Rules.{bookOf}
 use Rattle.frame.proofs.CommandLaws as over
@@ -116,3 +118,18 @@ response-parts κs a x v met p =
       tells (response-divides (a .0) (a .1 .0 .0)) s p saidResponse response.Is (λ r. refl) saidResponse-injective x met,
       (λ r is. response-auth (a .0) (a .1 .0 .0) s p r (sym met ∙ ap saidResponse is)),
     )
+
+-- ---- for whoever copies them: in the standard reading every nonce and every HMAC that `parts` gives has at most 64 bytes, and lies within the
+-- frame
+
+pub command-parts-fields : Promised 1 command-parts-kinds.ps command-parts-kinds.r command-parts-reads.Post
+    (λ κs a x later. a .0 .reading ≡ reading.Standard → (c : Command) → x ≡ command.Is c
+    → EachField (Kept 64 (length (now (a .1 .0)))) (entriesOf (c .entries)))
+command-parts-fields κs a x v met by c is =
+    rw by at (over.command-fields (bookOf (a .0)) (now (a .1 .0)) c (sym met ∙ ap saidCommand is))
+
+pub response-parts-fields : Promised 1 response-parts-kinds.ps response-parts-kinds.r response-parts-reads.Post
+    (λ κs a x later. a .0 .reading ≡ reading.Standard → (r : Response) → x ≡ response.Is r
+    → EachField (Kept 64 (length (now (a .1 .1 .0)))) (entriesOf (r .entries)))
+response-parts-fields κs a x v met by r is =
+    rw by at (over-one.response-fields (bookOf (a .0)) (a .1 .0 .0) (now (a .1 .1 .0)) r (sym met ∙ ap saidResponse is))

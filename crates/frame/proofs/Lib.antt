@@ -6,6 +6,7 @@ pub mod EntryLaws
 pub mod FrameLaws
 pub mod Headers
 pub mod Laws
+pub mod Limits
 pub mod Readings
 pub mod ResponseLaws
 pub mod RulesByValue

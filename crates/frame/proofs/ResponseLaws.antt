@@ -37,7 +37,7 @@ use Rattle.frame.specs.Layout.{
   layoutFrame,
   layoutResponse,
 }
-use Rattle.frame.specs.Parts.{between, entriesIn, entriesOf, told, responseParts}
+use Rattle.frame.specs.Parts.{between, Kept, EachField, entriesIn, entriesOf, told, responseParts}
 use Rattle.frame.specs.Response.{judgeResponse, castResponse, errorAreas, successAreas, responseAreas, readResponse}
 use Rattle.frame.specs.Rules.{Rulebook}
 use Rattle.frame.specs.Walk.{walk, byValue}
@@ -67,7 +67,7 @@ use Rattle.frame.proofs.FrameLaws.{
   sized-complete,
 }
 use Rattle.frame.proofs.Standing.{between-at, at-between, length-entries}
-use Rattle.frame.proofs.WalkLaws.{walk-sound, walk-few, walk-complete, walk-end}
+use Rattle.frame.proofs.WalkLaws.{walk-sound, walk-few, walk-complete, walk-end, walk-inside}
 
 -- ---- the two kinds
 
@@ -124,14 +124,14 @@ module _ (book : Rulebook) (cc : ℕ) where
     tag-admitted : isResponseTag book (tagOf s) ≡ true
     code-reads : reads book (tagOf s) (codeOf s) ≡ true
     judged : cond (eqb (codeOf s) 0) (successAreas (row .responses) s) (errorAreas book s) ≡ gives (d .areas)
-    walked : walk 3 0 s (d .areas .to) ≡ gives (d .entries)
+    walked : walk (book .longest) 3 0 s (d .areas .to) ≡ gives (d .entries)
 
   steps-taken : (s : List ℕ) (d : Division) → readResponse book cc s ≡ gives d → Steps s d
   unfolding readResponse responseAreas castResponse judgeResponse readRc
   steps-taken s d e =
       let read = then-gives (responseAreas book cc s) _ e in
       let areas : Areas = read .0 in
-      let walked = then-gives (walk 3 0 s (areas .to)) _ (read .2) in
+      let walked = then-gives (walk (book .longest) 3 0 s (areas .to)) _ (read .2) in
       let cast = then-gives (castResponse book s) _ (read .1) in
       let found = then-gives (rowFor (book .rows) cc) _ (cast .2) in
       let whole = then-gives (frameWhole s) _ (cast .1) in
@@ -169,7 +169,7 @@ module _ (book : Rulebook) (cc : ℕ) where
   parts s d = told s (tagOf s) (codeOf s) ((frameOf responseOf s d) .handles) ((frameOf responseOf s d) .parameters) (d .entries)
 
   all-entries : (s : List ℕ) (d : Division) → Steps s d → entriesOf (byValue (d .entries)) ≡ d .entries
-  all-entries s d t = entries-of (d .entries) (walk-few 3 0 s (d .areas .to) (t .walked))
+  all-entries s d t = entries-of (d .entries) (walk-few (book .longest) 3 0 s (d .areas .to) (t .walked))
 
   parts-told : (s : List ℕ) (d : Division) → readResponse book cc s ≡ gives d → responseParts s (frameOf responseOf s d) ≡ parts s d
   unfolding responseParts
@@ -186,7 +186,7 @@ module _ (book : Rulebook) (cc : ℕ) where
         let ten = t .ten in
         let bare = taken .1 in
         let to : d .areas .to ≡ 10 = ap (λ (a : Areas). a .to) (sym (taken .2)) in
-        let none : d .entries ≡ [] = gives-injective (sym (t .walked) ∙ walk-end 3 0 s (d .areas .to) (omega arith)) in
+        let none : d .entries ≡ [] = gives-injective (sym (t .walked) ∙ walk-end (book .longest) 3 0 s (d .areas .to) (omega arith)) in
         let formed : ErrorParts book (parts s d) =
         record {
           either-error = error-parted book (parts s d) (taken .0) (t .code-reads) q;
@@ -207,20 +207,20 @@ module _ (book : Rulebook) (cc : ℕ) where
         )
 
     success-sound : codeOf s ≡ 0 → Succeeded (t .row .responses) s (d .areas)
-        → SuccessParts (t .row .responses) (parts s d) × (layoutResponse (parts s d) ≡ s)
+        → SuccessParts book (t .row .responses) (parts s d) × (layoutResponse (parts s d) ≡ s)
     unfolding layoutResponse
     success-sound q taken =
         let h : ℕ = 10 + 4 * t .row .responses in
         let from : ℕ = d .areas .from in
         let to : ℕ = d .areas .to in
         let order = sized-order (eqb (tagOf s) sessions) (length s) h s (taken .room) (le-refl (length s)) (taken .sized) in
-        let walked = walk-sound 3 0 s to p (order .3) (t .walked) in
+        let walked = walk-sound (book .longest) 3 0 s to p (order .3) (t .walked) in
         let handles = at-between s 10 (d .areas .handles) (omega arith) (omega arith) in
         let sized = at-between s from to (order .2) (order .3) in
         let none : eqb (tagOf s) sessions ≡ false → entriesIn s (d .entries) ≡ [] =
         λ plainly.
         let ends = plain-places (length s) h s (rw plainly at (taken .sized)) in
-        ap (entriesIn s) (gives-injective (sym (t .walked) ∙ walk-end 3 0 s to (omega arith))) in
+        ap (entriesIn s) (gives-injective (sym (t .walked) ∙ walk-end (book .longest) 3 0 s to (omega arith))) in
         let again : layoutResponse (parts s d) ≡ s =
         frame-again (length s) h s p (t .size-is) (taken .sized) (record {
           handles-at = handles .0;
@@ -238,7 +238,7 @@ module _ (book : Rulebook) (cc : ℕ) where
               handle-bytes = are-bytes-take (d .areas .handles - 10) (drop 10 s) (are-bytes-drop 10 s p);
               handle-count = omega (arith, handles .1);
               whole-entries = walked .2;
-              three-entries = rw length-entries (walk-few 3 0 s to (t .walked));
+              three-entries = rw length-entries (walk-few (book .longest) 3 0 s to (t .walked));
               plain-entries = none;
               parameter-bytes = are-bytes-take (to - from) (drop from s) (are-bytes-drop from s p);
             };
@@ -278,9 +278,19 @@ module _ (book : Rulebook) (cc : ℕ) where
       let d : Division = read .0 in
       let t = steps-taken s d (read .1) in
       let either = cond-gives (eqb (codeOf s) 0) (successAreas (t .row .responses) s) (errorAreas book s) (t .judged) in
-      let walked = walk-sound 3 0 s (d .areas .to) p (within s p d t either) (t .walked) in
+      let walked = walk-sound (book .longest) 3 0 s (d .areas .to) p (within s p d t either) (t .walked) in
       subst (λ (r : Response). heldAt (r .auth) s ≡ layoutEntries 0 (responseParts s r .entries)) (gives-injective (read .2))
       (between-at (length s) (walked .0) (walked .1) ∙ ap (λ (es : List Session). layoutEntries 0 (entriesIn s es)) (sym (all-entries s d t)))
+
+  -- the nonces and HMACs that are given back are within the limit, and lie within the frame
+  pub response-fields : (s : List ℕ) (r : Response) → responseByValue s (readResponse book cc s) ≡ gives r
+      → EachField (Kept (book .longest) (length s)) (entriesOf (r .entries))
+  response-fields s r e =
+      let read = then-gives (readResponse book cc s) _ e in
+      let d : Division = read .0 in
+      let t = steps-taken s d (read .1) in
+      subst (λ (r : Response). EachField (Kept (book .longest) (length s)) (entriesOf (r .entries))) (gives-injective (read .2))
+      (rw (all-entries s d t) (walk-inside (book .longest) 3 0 s (d .areas .to) (t .walked)))
 
   pub response-sound : (s : List ℕ) → AreBytes s → (d : Division) → readResponse book cc s ≡ gives d
       → ResponseParts book cc (parts s d) × (layoutResponse (parts s d) ≡ s)
@@ -291,7 +301,7 @@ module _ (book : Rulebook) (cc : ℕ) where
   -- ---- the layout of well-formed parts passes, and they are the parts read
 
   module _ (f : Frame) (row : Row) (found : rowFor (book .rows) cc ≡ gives row) (s : List ℕ) where
-    module _ (success : f .code ≡ 0) (w : WellFormed 0 (row .responses) f)
+    module _ (success : f .code ≡ 0) (w : WellFormed (book .longest) 0 (row .responses) f)
         (framed : Framed s (f .tag) (f .code) (layoutBody (f .tag) (f .handles) (f .parameters) (layoutEntries 0 (f .entries)))) where
       -- from where the parts stand to the division
       with-areas : (areas : Areas) → Holds s areas (f .handles) (f .parameters) (layoutEntries 0 (f .entries))
@@ -301,7 +311,7 @@ module _ (book : Rulebook) (cc : ℕ) where
           let tag : tagOf s ≡ f .tag = framed .tag-is in
           let code : codeOf s ≡ f .code = framed .code-is in
           let two = is-of-two (f .tag) (w .tag-of-two) in
-          let walked = walk-complete 3 0 s (areas .to) (f .entries) (w .whole-entries) (w .three-entries) (held .rest-at) (held .rest-end) in
+          let walked = walk-complete (book .longest) 3 0 s (areas .to) (f .entries) (w .whole-entries) (w .three-entries) (held .rest-at) (held .rest-end) in
           let d : Division = record { areas = areas; entries = walked .0 } in (
             d,
             steps-pass s d (record {
@@ -357,7 +367,7 @@ module _ (book : Rulebook) (cc : ℕ) where
             tag-admitted = rw tag (t .tag-admitted);
             code-reads = rw (tag, code) (t .code-reads);
             judged = rw (code, t .no-success) (error-passes book s (rw tag (t .tag-for-error)) (omega arith));
-            walked = walk-end 3 0 s 10 (omega arith);
+            walked = walk-end (book .longest) 3 0 s 10 (omega arith);
           }),
           (λ i. record {
             tag = tag i;
@@ -368,7 +378,7 @@ module _ (book : Rulebook) (cc : ℕ) where
           }),
         )
 
-  success-laid : (f : Frame) (row : Row) → rowFor (book .rows) cc ≡ gives row → SuccessParts (row .responses) f
+  success-laid : (f : Frame) (row : Row) → rowFor (book .rows) cc ≡ gives row → SuccessParts book (row .responses) f
       → (d : Division) × (readResponse book cc (layoutResponse f) ≡ gives d) × (parts (layoutResponse f) d ≡ f)
   unfolding layoutResponse
   success-laid f row found e =
@@ -390,7 +400,7 @@ module _ (book : Rulebook) (cc : ℕ) where
       → (d : Division) × (readResponse book cc (layoutResponse f) ≡ gives d) × (parts (layoutResponse f) d ≡ f)
   response-complete f c = by (c .either-kind)
     where
-      by : SuccessParts (c .row .responses) f ⊎ ErrorParts book f
+      by : SuccessParts book (c .row .responses) f ⊎ ErrorParts book f
           → (d : Division) × (readResponse book cc (layoutResponse f) ≡ gives d) × (parts (layoutResponse f) d ≡ f)
       by (inl e) = success-laid f (c .row) (c .has-row) e
       by (inr e) = error-laid f (c .row) (c .has-row) e

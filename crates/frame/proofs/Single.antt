@@ -19,6 +19,8 @@ use Rattle.frame.specs.declared.command.CommandRead.the-variants as comm
 use Rattle.frame.specs.declared.response.ResponseRead.{ResponseRead}
 use Rattle.frame.specs.declared.response.ResponseRead.the-variants as response
 use Rattle.frame.specs.Answer.{saidCommand, saidResponse}
+use Rattle.frame.proofs.rules.longest.Kinds as rules-longest-kinds
+use Rattle.frame.proofs.rules.longest.Reads as rules-longest-reads
 use Rattle.frame.proofs.session.Entries.new.Kinds as entries-new-kinds
 use Rattle.frame.proofs.session.Entries.new.Reads as entries-new-reads
 use Rattle.frame.proofs.header.tag.Kinds as frame-tag-kinds
@@ -118,7 +120,10 @@ told-response (response.Refused e) = ap response.Refused (named-numbered e)
 pub saidResponse-injective : (a b : ResponseRead) → saidResponse a ≡ saidResponse b → a ≡ b
 saidResponse-injective = injective-by saidResponse (unsaid response.Is response.Refused) told-response
 
--- ---- the header
+-- ---- rules and header
+
+rules-longest : Single 0 rules-longest-kinds.ps rules-longest-kinds.r rules-longest-reads.Post
+rules-longest κs a x y v w p q = (p ∙ sym q, refl)
 
 entries-new : Single 0 entries-new-kinds.ps entries-new-kinds.r entries-new-reads.Post
 entries-new κs a x y v w p q = (p ∙ sym q, refl)

@@ -3,10 +3,12 @@
 -- Assumes nothing.
 use mathlib.Core.Path.{_≡_, refl}
 use mathlib.Core.List.{List, [], _∷_, _++_}
-use Prim.Native.Nat.{ℕ}
+use Prim.Native.Nat.{ℕ, _-_}
+use lib.ListN.{replicate}
 use Rattle.base.specs.Bytes.{number}
 use Rattle.base.specs.Said.{Said, gives, refuses, then, done}
-use Rattle.rc.specs.Code.{readCode, baseOf, kindNumber, kindOf, indexOf}
+use Rattle.rc.specs.Code.{readCode, readFmt0, baseOf, kindNumber, kindOf, indexOf}
+use Rattle.rc.specs.Known.{isKnown, knownCodes}
 use Rattle.table.specs.Dispatch.{dispatch}
 use Rattle.table.specs.Tags.{tags}
 use Rattle.base.specs.declared.part.Span.{Span}
@@ -14,7 +16,7 @@ use Rattle.frame.specs.Answer.{commandByValue, responseByValue, whole}
 use Rattle.frame.specs.Areas.{handleArea, sizedArea}
 use Rattle.frame.specs.Command.{commandHandles, commandAreas, judgeCommand, castCommand, readCommand}
 use Rattle.frame.specs.Header.{tagOf, sizeOf, codeOf, readCc, readRc, framePrefix, frameWhole, readCommandTag, readResponseTag}
-use Rattle.frame.specs.Response.{judgeResponse, castResponse, errorAreas, responseAreas, readResponse}
+use Rattle.frame.specs.Response.{judgeResponse, castResponse, errorAreas, successAreas, responseAreas, readResponse}
 use Rattle.frame.specs.Rules.{Rulebook, bookOf}
 use Rattle.frame.specs.declared.rules.Reading.the-variants as reading
 use Rattle.frame.specs.Walk.{readTpm2b, readSigned, readEntry, walk}
@@ -113,3 +115,46 @@ pub bad-tag-rows : judgedBy rust 0x15e (underRspCommand 10 0 0x1e [])
     ∷ []
 unfolding number dispatch tagOf sizeOf codeOf framePrefix frameWhole readResponseTag readRc judgeResponse castResponse errorAreas responseAreas readResponse walk
 bad-tag-rows = refl
+
+-- ---- nonces and HMACs of at most 64 bytes (document 02, W6)
+
+-- a nonce or an HMAC that says so many bytes, of which so many are there
+abbrev field : ℕ → ℕ → List ℕ
+field size count = 0 ∷ size ∷ replicate count 0
+
+-- B and C, with their size field, and one entry behind its handle
+abbrev commandWith : ℕ → List ℕ → List ℕ
+commandWith size signed = B size (size - 18) (0x40 ∷ 0 ∷ 0 ∷ 0x09 ∷ signed)
+
+abbrev responseWith : ℕ → List ℕ → List ℕ
+responseWith size signed =
+    0x80 ∷ 0x02 ∷ 0 ∷ 0 ∷ 0 ∷ size ∷ 0 ∷ 0 ∷ 0 ∷ 0 ∷ 0 ∷ 0 ∷ 0 ∷ 0x04 ∷ 0 ∷ 0x02 ∷ 0xaa ∷ 0xbb ∷ signed
+
+-- whether they pass in the Rust reading and in the standard one, and if not, why
+abbrev commandBoth : List ℕ → List (Said (Unit {0}))
+commandBoth s = done (readCommand rust s) ∷ done (readCommand standard s) ∷ []
+
+abbrev responseBoth : List ℕ → List (Said (Unit {0}))
+responseBoth s = done (readResponse rust 0x17b s) ∷ done (readResponse standard 0x17b s) ∷ []
+
+-- a nonce of 64 bytes, of 65, an HMAC of 64, of 65; a nonce that says 65 and has one; half a length; and of a response a nonce and an HMAC of 65
+pub limit-rows : commandBoth (commandWith 91 (field 64 64 ++ (0 ∷ field 0 0)))
+    ∷ commandBoth (commandWith 92 (field 65 65 ++ (0 ∷ field 0 0)))
+    ∷ commandBoth (commandWith 91 (field 0 0 ++ (0 ∷ field 64 64)))
+    ∷ commandBoth (commandWith 92 (field 0 0 ++ (0 ∷ field 65 65)))
+    ∷ commandBoth (commandWith 25 (field 65 1))
+    ∷ commandBoth (commandWith 23 (65 ∷ []))
+    ∷ responseBoth (responseWith 88 (field 65 65 ++ (0 ∷ field 0 0)))
+    ∷ responseBoth (responseWith 88 (field 0 0 ++ (0 ∷ field 65 65)))
+    ∷ []
+    ≡ (gives tt ∷ gives tt ∷ [])
+    ∷ (gives tt ∷ refuses (8 ∷ 22 ∷ 64 ∷ 65 ∷ []) ∷ [])
+    ∷ (gives tt ∷ gives tt ∷ [])
+    ∷ (gives tt ∷ refuses (8 ∷ 25 ∷ 64 ∷ 65 ∷ []) ∷ [])
+    ∷ (refuses (1 ∷ 22 ∷ 67 ∷ 3 ∷ []) ∷ refuses (8 ∷ 22 ∷ 64 ∷ 65 ∷ []) ∷ [])
+    ∷ (refuses (1 ∷ 22 ∷ 2 ∷ 1 ∷ []) ∷ refuses (1 ∷ 22 ∷ 2 ∷ 1 ∷ []) ∷ [])
+    ∷ (gives tt ∷ refuses (8 ∷ 18 ∷ 64 ∷ 65 ∷ []) ∷ [])
+    ∷ (gives tt ∷ refuses (8 ∷ 21 ∷ 64 ∷ 65 ∷ []) ∷ [])
+    ∷ []
+unfolding number dispatch tags tagOf sizeOf codeOf readCc readRc framePrefix frameWhole readCommandTag readResponseTag handleArea sizedArea commandHandles commandAreas judgeCommand castCommand readCommand judgeResponse castResponse successAreas responseAreas readResponse readCode readFmt0 isKnown knownCodes readTpm2b readSigned readEntry walk
+limit-rows = refl

@@ -51,7 +51,7 @@ module _ (book : Rulebook) where
   unfoldable pub readCommand : List ℕ → Said Division
   readCommand s =
       then (castCommand s) λ areas.
-      then (walk 3 4 (take (areas .to) s) (areas .from)) λ entries.
+      then (walk (book .longest) 3 4 (take (areas .to) s) (areas .from)) λ entries.
       gives (record { areas = areas; entries = entries })
 
   -- the three areas as parts of the bytes, each with its own checks and no more

@@ -62,25 +62,25 @@ layoutResponse f = layoutFrame (f .tag) (f .code) (layoutBody (f .tag) (f .handl
 
 -- ---- which parts are well formed
 
-abbrev pub WholeEntry : ℕ → Entry → Type 0
-WholeEntry width e =
-    (e .handle < 256 ^ width)
-    × (AreBytes (e .nonce) × (length (e .nonce) < 65536))
-    × (e .attributes < 256)
-    × (AreBytes (e .hmac) × (length (e .hmac) < 65536))
+-- a nonce or an HMAC: its length fits two bytes and is within the limit
+abbrev pub WholeField : ℕ → List ℕ → Type 0
+WholeField limit t = AreBytes t × (length t < 65536) × (length t ≤ limit)
 
-abbrev pub WholeEntries : ℕ → List Entry → Type 0
-WholeEntries width [] = Unit {0}
-WholeEntries width (e ∷ es) = WholeEntry width e × WholeEntries width es
+abbrev pub WholeEntry : ℕ → ℕ → Entry → Type 0
+WholeEntry limit width e = (e .handle < 256 ^ width) × WholeField limit (e .nonce) × (e .attributes < 256) × WholeField limit (e .hmac)
+
+abbrev pub WholeEntries : ℕ → ℕ → List Entry → Type 0
+WholeEntries limit width [] = Unit {0}
+WholeEntries limit width (e ∷ es) = WholeEntry limit width e × WholeEntries limit width es
 
 -- what commands and success responses share: a tag of the two, as many handle bytes as the row says, at most three entries and none
--- under the plain tag, and a size that fits its field
-pub record WellFormed (width handles : ℕ) (f : Frame) : Type 0 where
+-- under the plain tag, whose nonces and HMACs are within the limit, and a size that fits its field
+pub record WellFormed (limit width handles : ℕ) (f : Frame) : Type 0 where
   pub tag-of-two : (f .tag ≡ plain) ⊎ (f .tag ≡ sessions)
   pub code-fits : f .code < 4294967296
   pub handle-bytes : AreBytes (f .handles)
   pub handle-count : length (f .handles) ≡ 4 * handles
-  pub whole-entries : WholeEntries width (f .entries)
+  pub whole-entries : WholeEntries limit width (f .entries)
   pub three-entries : length (f .entries) ≤ 3
   pub plain-entries : eqb (f .tag) sessions ≡ false → f .entries ≡ []
   pub parameter-bytes : AreBytes (f .parameters)
@@ -89,7 +89,7 @@ pub record WellFormed (width handles : ℕ) (f : Frame) : Type 0 where
 pub record CommandParts (book : Rulebook) (f : Frame) : Type 0 where
   pub row : Row
   pub has-row : rowFor (book .rows) (f .code) ≡ gives row
-  pub well-formed : WellFormed 4 (row .handles) f
+  pub well-formed : WellFormed (book .longest) 4 (row .handles) f
   pub size-fits : length (layoutCommand f) < 4294967296
 
 -- an error under the plain tag: a code that reads and is not success
@@ -108,13 +108,13 @@ pub record ErrorParts (book : Rulebook) (f : Frame) : Type 0 where
   pub no-entries : f .entries ≡ []
   pub no-parameters : f .parameters ≡ []
 
-pub record SuccessParts (responses : ℕ) (f : Frame) : Type 0 where
+pub record SuccessParts (book : Rulebook) (responses : ℕ) (f : Frame) : Type 0 where
   pub success : f .code ≡ 0
-  pub well-formed : WellFormed 0 responses f
+  pub well-formed : WellFormed (book .longest) 0 responses f
   pub size-fits : length (layoutResponse f) < 4294967296
 
 -- a response to a command whose code has a row
 pub record ResponseParts (book : Rulebook) (cc : ℕ) (f : Frame) : Type 0 where
   pub row : Row
   pub has-row : rowFor (book .rows) cc ≡ gives row
-  pub either-kind : SuccessParts (row .responses) f ⊎ ErrorParts book f
+  pub either-kind : SuccessParts book (row .responses) f ⊎ ErrorParts book f

@@ -1,7 +1,7 @@
 -- The parts that a command or a response by value tells of some bytes: where the layout says what a part is, what is given back says
 -- where it stands.
 -- Assumes nothing: these are definitions.
-use Prim.Native.Nat.{ℕ, _-_}
+use Prim.Native.Nat.{ℕ, _+_, _-_, _≤_}
 use mathlib.Core.List.{List, [], _∷_}
 use lib.ListN.{take, drop}
 use Rattle.base.specs.Answer.{Part}
@@ -23,6 +23,21 @@ ranged p = record { from = p .from; to = p .to }
 
 abbrev pub fieldIn : List ℕ → Field → List ℕ
 fieldIn s f = take (f .size) (drop (f .at) s)
+
+-- a nonce or an HMAC of at most so many bytes, one that ends within so many, and one that does both
+abbrev pub NoLonger : ℕ → Field → Type 0
+NoLonger limit f = f .size ≤ limit
+
+abbrev pub EndsWithin : ℕ → Field → Type 0
+EndsWithin len f = f .at + f .size ≤ len
+
+abbrev pub Kept : ℕ → ℕ → Field → Type 0
+Kept limit len f = NoLonger limit f × EndsWithin len f
+
+-- what holds of the nonce and of the HMAC of each entry
+abbrev pub EachField : (Field → Type 0) → List Session → Type 0
+EachField P [] = Unit {0}
+EachField P (e ∷ es) = (P (e .nonce) × P (e .hmac)) × EachField P es
 
 abbrev pub entryIn : List ℕ → Session → Entry
 entryIn s e = record { handle = e .handle; nonce = fieldIn s (e .nonce); attributes = e .attributes; hmac = fieldIn s (e .hmac) }

@@ -51,7 +51,7 @@ module _ (book : Rulebook) where
     unfoldable pub readResponse : List ℕ → Said Division
     readResponse s =
         then (responseAreas s) λ areas.
-        then (walk 3 0 s (areas .to)) λ entries.
+        then (walk (book .longest) 3 0 s (areas .to)) λ entries.
         gives (record { areas = areas; entries = entries })
 
 -- all behind the header

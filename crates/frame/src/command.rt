@@ -19,6 +19,7 @@ use crate::header::frame_prefix;
 use crate::header::frame_whole;
 use crate::header::short;
 use crate::rules::Rules;
+use crate::rules::longest;
 use crate::session::Entries;
 use crate::walk::entries;
 use crate::walk::walk;
@@ -307,7 +308,7 @@ fn divide(rules: Rules, s: &[u8]) -> Divided
         Divided::Refused(e) => Divided::Refused(e),
         Divided::Is(a) => {
             let to = a.to;
-            match walk(true, &s[..to], a.from) {
+            match walk(longest(rules), true, &s[..to], a.from) {
                 Outcome::Refused(e) => Divided::Refused(e),
                 Outcome::Done => Divided::Is(a),
             }

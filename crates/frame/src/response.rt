@@ -26,6 +26,7 @@ use crate::header::is_rsp_command;
 use crate::header::response_tag;
 use crate::header::short;
 use crate::rules::Rules;
+use crate::rules::longest;
 use crate::session::Entries;
 use crate::walk::entries;
 use crate::walk::walk;
@@ -303,7 +304,7 @@ fn divide(rules: Rules, cc: TpmCc, s: &[u8]) -> Divided
 {
     match areas(rules, cc, s) {
         Divided::Refused(e) => Divided::Refused(e),
-        Divided::Is(a) => match walk(false, s, a.to) {
+        Divided::Is(a) => match walk(longest(rules), false, s, a.to) {
             Outcome::Refused(e) => Divided::Refused(e),
             Outcome::Done => Divided::Is(a),
         },

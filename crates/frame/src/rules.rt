@@ -2,7 +2,7 @@
 ghost use mathlib.Core.Path.{_≡_};
 ghost use Rattle.frame.specs.Rules.{bookOf};
 
-// The Rust's reading, or the standard one, which knows the answer to a bad tag.
+// The Rust's reading, or the standard one, which knows the answer to a bad tag and how long a nonce or an HMAC can be.
 pub enum Reading {
     Rust,
     Standard,
@@ -21,5 +21,16 @@ pub(crate) fn knows_bad_tag(rules: Rules) -> bool
     match reading {
         Reading::Rust => false,
         Reading::Standard => true,
+    }
+}
+
+// The most bytes of a nonce or an HMAC: what a length of two bytes can say, or the longest digest that the Library has.
+pub fn longest(rules: Rules) -> usize
+    ensures { λ r. ⌜ r ≡ bookOf rules .longest ⌝ }
+{
+    let reading = rules.reading;
+    match reading {
+        Reading::Rust => 65535,
+        Reading::Standard => 64,
     }
 }

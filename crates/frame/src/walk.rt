@@ -1,8 +1,10 @@
 // The walk over the entries of an authorization area, one for commands and responses.
 ghost use mathlib.Core.Path.{_≡_};
+ghost use Prim.Native.Nat.{ℕ, _≤_};
 ghost use Rattle.base.specs.Answer.{saidCount, saidNumber16, saidOutcome};
 ghost use Rattle.base.specs.Said.{done, gives};
 ghost use Rattle.frame.specs.Answer.{behindOf, entriesByValue, handleWidth};
+ghost use Rattle.frame.specs.Rules.{unlimited};
 ghost use Rattle.frame.specs.Walk.{readEntry, readSigned, readTpm2b, walk};
 use crate::session::Entries;
 use crate::session::Field;
@@ -18,14 +20,23 @@ use base::field::be32;
 use base::field::read_u16;
 use base::field::read_u32;
 
-// The size of the TPM2B at a place. A short one is refused at its length field, and its length counts.
-fn tpm2b(s: &[u8], place: usize) -> Number16
-    ensures { λ r. ⌜ saidNumber16 r ≡ readTpm2b (now (s .entry)) place ⌝ }
+// The size of the TPM2B at a place, which is within the limit. A long or a short one is refused at its length field, and of a short one the
+// length counts.
+fn tpm2b(limit: usize, s: &[u8], place: usize) -> Number16
+    ensures { λ r. ⌜ saidNumber16 r ≡ readTpm2b limit (now (s .entry)) place ⌝ }
+    ensures within { λ r. ⌜ ((size : ℕ) → saidNumber16 r ≡ gives size → size ≤ limit) ⌝ }
 {
     let read = read_u16(s, place);
     let Number16::Is(size) = read else {
         return read;
     };
+    if limit < size as usize {
+        return Number16::Refused(TpmError::TooManyBytes {
+            offset: place,
+            limit,
+            actual: size as usize,
+        });
+    }
     let needed = 2 + size as usize;
     let left = s.len() - place;
     if left < needed {
@@ -39,10 +50,10 @@ fn tpm2b(s: &[u8], place: usize) -> Number16
 }
 
 // The place behind what every entry has: nonce, attribute byte and HMAC.
-fn behind_signed(s: &[u8], place: usize) -> Count
-    ensures { λ r. ⌜ saidCount r ≡ behindOf (readSigned 0 (now (s .entry)) place) ⌝ }
+fn behind_signed(limit: usize, s: &[u8], place: usize) -> Count
+    ensures { λ r. ⌜ saidCount r ≡ behindOf (readSigned limit 0 (now (s .entry)) place) ⌝ }
 {
-    match tpm2b(s, place) {
+    match tpm2b(limit, s, place) {
         Number16::Refused(e) => Count::Refused(e),
         Number16::Is(nonce) => {
             let at = place + 2 + nonce as usize;
@@ -53,7 +64,7 @@ fn behind_signed(s: &[u8], place: usize) -> Count
                     available: 0,
                 });
             }
-            match tpm2b(s, at + 1) {
+            match tpm2b(limit, s, at + 1) {
                 Number16::Refused(e) => Count::Refused(e),
                 Number16::Is(hmac) => Count::Is(at + 3 + hmac as usize),
             }
@@ -62,22 +73,22 @@ fn behind_signed(s: &[u8], place: usize) -> Count
 }
 
 // The place behind an entry, with a handle before it in a command.
-fn behind_entry(command: bool, s: &[u8], place: usize) -> Count
-    ensures { λ r. ⌜ saidCount r ≡ behindOf (readEntry (handleWidth command) (now (s .entry)) place) ⌝ }
+fn behind_entry(limit: usize, command: bool, s: &[u8], place: usize) -> Count
+    ensures { λ r. ⌜ saidCount r ≡ behindOf (readEntry limit (handleWidth command) (now (s .entry)) place) ⌝ }
 {
     if command {
         match read_u32(s, place) {
             Number32::Refused(e) => Count::Refused(e),
-            Number32::Is(_) => behind_signed(s, place + 4),
+            Number32::Is(_) => behind_signed(limit, s, place + 4),
         }
     } else {
-        behind_signed(s, place)
+        behind_signed(limit, s, place)
     }
 }
 
-// Whether what stands from a place of s to its end is entries.
-pub(crate) fn walk(command: bool, s: &[u8], place: usize) -> Outcome
-    ensures { λ r. ⌜ saidOutcome r ≡ done (walk 3 (handleWidth command) (now (s .entry)) place) ⌝ }
+// Whether what stands from a place of s to its end is entries, with nonces and HMACs of at most so many bytes.
+pub(crate) fn walk(limit: usize, command: bool, s: &[u8], place: usize) -> Outcome
+    ensures { λ r. ⌜ saidOutcome r ≡ done (walk limit 3 (handleWidth command) (now (s .entry)) place) ⌝ }
 {
     let mut count = 0;
     let mut at = place;
@@ -89,7 +100,7 @@ pub(crate) fn walk(command: bool, s: &[u8], place: usize) -> Outcome
                 actual: MAX_SESSIONS + 1,
             });
         }
-        match behind_entry(command, s, at) {
+        match behind_entry(limit, command, s, at) {
             Count::Refused(e) => return Outcome::Refused(e),
             Count::Is(end) => {
                 at = end;
@@ -100,12 +111,12 @@ pub(crate) fn walk(command: bool, s: &[u8], place: usize) -> Outcome
     Outcome::Done
 }
 
-// ---- what was walked over, read without a check
+// ---- what was walked over, read without a check: by any limit it is the same
 
 // What every entry has, where it stands.
 fn signed_at(handle: u32, s: &[u8], place: usize) -> Session
-    requires { ⌜ done (readSigned handle (now s) place) ≡ gives tt ⌝ }
-    ensures { λ r. ⌜ gives r ≡ readSigned handle (now (s .entry)) place ⌝ }
+    requires { ⌜ done (readSigned unlimited handle (now s) place) ≡ gives tt ⌝ }
+    ensures { λ r. ⌜ gives r ≡ readSigned unlimited handle (now (s .entry)) place ⌝ }
 {
     let nonce = be16(s[place], s[place + 1]);
     let at = place + 2 + nonce as usize;
@@ -125,8 +136,8 @@ fn signed_at(handle: u32, s: &[u8], place: usize) -> Session
 
 // An entry, where one stands.
 fn entry_at(command: bool, s: &[u8], place: usize) -> Session
-    requires { ⌜ done (readEntry (handleWidth command) (now s) place) ≡ gives tt ⌝ }
-    ensures { λ r. ⌜ gives r ≡ readEntry (handleWidth command) (now (s .entry)) place ⌝ }
+    requires { ⌜ done (readEntry unlimited (handleWidth command) (now s) place) ≡ gives tt ⌝ }
+    ensures { λ r. ⌜ gives r ≡ readEntry unlimited (handleWidth command) (now (s .entry)) place ⌝ }
 {
     if command {
         let handle = be32(s[place], s[place + 1], s[place + 2], s[place + 3]);
@@ -138,8 +149,8 @@ fn entry_at(command: bool, s: &[u8], place: usize) -> Session
 
 // The entries from a place of s to its end.
 pub(crate) fn entries(command: bool, s: &[u8], place: usize) -> Entries
-    requires { ⌜ done (walk 3 (handleWidth command) (now s) place) ≡ gives tt ⌝ }
-    ensures { λ r. ⌜ gives r ≡ entriesByValue (walk 3 (handleWidth command) (now (s .entry)) place) ⌝ }
+    requires { ⌜ done (walk unlimited 3 (handleWidth command) (now s) place) ≡ gives tt ⌝ }
+    ensures { λ r. ⌜ gives r ≡ entriesByValue (walk unlimited 3 (handleWidth command) (now (s .entry)) place) ⌝ }
 {
     let mut found = Entries::new();
     let mut at = place;

@@ -32,11 +32,11 @@ Refused room x later why = (saidCount x ≡ refuses why) × (later ≡ room)
 
 -- A call that was handed h, and so asked for a frame of some code. `From s d` says that what was handed over are the parts that the
 -- reading d tells of s, and Bare that they are of a frame that comes out otherwise.
-pub record Writes {D : Type 0} (read : List ℕ → Said D) (parts : List ℕ → D → Frame) (layout : Frame → List ℕ) (Formed : Frame → Type 0)
+pub record Writes {D : Type 0} (limit : ℕ) (read : List ℕ → Said D) (parts : List ℕ → D → Frame) (layout : Frame → List ℕ) (Formed : Frame → Type 0)
     (From : List ℕ → D → Type 0) (Bare : D → Type 0) (h : Handed) (code : ℕ) (asked : Frame) (room : List ℕ) (x : Count) (later : List ℕ) : Type 0 where
   -- an answer tells that the frame can be written, and where it can be it is
-  pub taken : (n : ℕ) → x ≡ count.Is n → OfTypes h → code < 4294967296 → Taken Formed layout asked h (length room)
-  pub written : Taken Formed layout asked h (length room) → Written room x later (layout asked)
+  pub taken : (n : ℕ) → x ≡ count.Is n → OfTypes h → code < 4294967296 → Taken limit Formed layout asked h (length room)
+  pub written : Taken limit Formed layout asked h (length room) → Written room x later (layout asked)
   -- what was written passes, its parts are those asked for, and the bytes behind it stay
   pub reads : (n : ℕ) → x ≡ count.Is n → OfTypes h → code < 4294967296
       → (d : D) × (read (take n later) ≡ gives d) × (parts (take n later) d ≡ asked) × (drop n later ≡ drop n room)
@@ -64,13 +64,13 @@ module _ (room : List ℕ) (x : Count) (later : List ℕ) (said : Said (List ℕ
   pub refused-exactly : {why : List ℕ} → (saidCount x ≡ refuses why) ↔ (said ≡ refuses why)
   refused-exactly = ((λ e. counted-refuses said (sym answer ∙ e)), (λ e. is-refused e .0))
 
-  module _ {D : Type 0} (read : List ℕ → Said D) (parts : List ℕ → D → Frame) (layout : Frame → List ℕ) (Formed : Frame → Type 0)
+  module _ {D : Type 0} (limit : ℕ) (read : List ℕ → Said D) (parts : List ℕ → D → Frame) (layout : Frame → List ℕ) (Formed : Frame → Type 0)
       (From : List ℕ → D → Type 0) (Bare : D → Type 0) (h : Handed) (code : ℕ) (asked : Frame) where
-    pub writes : ((t : List ℕ) → said ≡ gives t → OfTypes h → code < 4294967296 → Taken Formed layout asked h (length room))
-        → (Taken Formed layout asked h (length room) → said ≡ gives (layout asked))
+    pub writes : ((t : List ℕ) → said ≡ gives t → OfTypes h → code < 4294967296 → Taken limit Formed layout asked h (length room))
+        → (Taken limit Formed layout asked h (length room) → said ≡ gives (layout asked))
         → ((t : List ℕ) → said ≡ gives t → OfTypes h → code < 4294967296 → (d : D) × (read t ≡ gives d) × (parts t d ≡ asked))
         → ((s : List ℕ) → AreBytes s → (d : D) → read s ≡ gives d → From s d → length s ≤ length room → (Bare d → ⊥) → said ≡ gives s)
-        → Writes read parts layout Formed From Bare h code asked room x later
+        → Writes limit read parts layout Formed From Bare h code asked room x later
     writes takes lays passes same =
         let start : (n : ℕ) → x ≡ count.Is n → (t : List ℕ) × (said ≡ gives t) × (take n (roomAfter room said) ≡ t) =
         λ n is. room-start room said (sym answer ∙ ap saidCount is) in record {

@@ -49,7 +49,7 @@ module _ (book : Rulebook) where
             code-fits = fits;
             handle-bytes = types .handle-bytes;
             handle-count = p .fits .handle-count;
-            whole-entries = whole-sessions h types (p .fits .there);
+            whole-entries = whole-sessions (book .longest) h types (p .fits .there);
             three-entries = rw length-entries (three-at-most (h .sessions));
             plain-entries = no-entries tag h (p .tag-is);
             parameter-bytes = types .parameter-bytes;
@@ -72,17 +72,17 @@ module _ (book : Rulebook) where
     -- ---- what was read is written again
 
     module _ (s : List ℕ) (c : Command) (read : commandByValue s (readCommand book s) ≡ gives c) where
-      stand : Stand s (c .entries)
+      stand : Stand (book .longest) s (c .entries)
       unfolding readCommand
       stand =
           let division = then-gives (readCommand book s) _ read in
           let cast = then-gives (castCommand book s) _ (division .1) in
           let area = take (cast .0 .to) s in
-          let entries = then-gives (walk 3 4 area (cast .0 .from)) _ (cast .2) in
+          let entries = then-gives (walk (book .longest) 3 4 area (cast .0 .from)) _ (cast .2) in
           let short = length-take (cast .0 .to) s in
           let same : byValue (entries .0) ≡ c .entries =
           ap (λ (d : Division). byValue (d .entries)) (gives-injective (entries .2)) ∙ ap (λ (k : Command). k .entries) (gives-injective (division .2)) in
-          subst (Stand s) same (walk-stands 4 area (cast .0 .from) s (omega arith) (entries .1))
+          subst (Stand (book .longest) s) same (walk-stands (book .longest) 4 area (cast .0 .from) s (omega arith) (entries .1))
 
       -- the parts that were read, written into enough room, give the same bytes ..
       pub command-again : AreBytes s → (room : ℕ) → length s ≤ room → (eqb (c .tag .0) sessions ≡ true → c .entries .count ≡ 0 → ⊥)
@@ -104,7 +104,7 @@ module _ (book : Rulebook) where
             fits = record {
               handle-count = parts .well-formed .handle-count;
               there = stand .1;
-              total-is = ap length (sym (formed .1)) ∙ length-command h (stand .1) (c .tag .0) (c .cc .0);
+              total-is = ap length (sym (formed .1)) ∙ length-command (book .longest) h (stand .1) (c .tag .0) (c .cc .0);
               small = omega arith;
               room-for = enough;
             };

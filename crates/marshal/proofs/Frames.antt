@@ -43,17 +43,24 @@ unfolding bytes
 without-handles [] = refl
 without-handles (e ∷ es) = ap (λ (t : List ℕ). layoutEntry 0 e ++ t) (without-handles es)
 
-module _ (h : Handed) (there : sessionsThere (length (h .lent)) (entriesOf (h .sessions)) ≡ gives tt) where
+pub success-layout : (h : Handed) → layoutResponse (successFrame h)
+    ≡ layoutFrame (tagFor (h .sessions .count)) 0 (layoutBody (tagFor (h .sessions .count)) (h .handles) (h .parameters) (layoutEntries 0 (entriesHanded h)))
+unfolding layoutResponse
+success-layout h =
+    ap (λ (es : List ℕ). layoutFrame (tagFor (h .sessions .count)) 0 (layoutBody (tagFor (h .sessions .count)) (h .handles) (h .parameters) es))
+    (without-handles (entriesHanded h))
+
+module _ (limit : ℕ) (h : Handed) (there : sessionsThere limit (length (h .lent)) (entriesOf (h .sessions)) ≡ gives tt) where
   -- the total of document 01 is the length of what is laid out
   pub command-total : (tag : ℕ) → totalSize 4 tag h ≡ 10 + length (layoutBody tag (h .handles) (layoutEntries 4 (entriesHanded h)) (h .parameters))
   command-total tag =
-      let entries = length-sessions (h .lent) 4 (entriesOf (h .sessions)) there in
+      let entries = length-sessions limit (h .lent) 4 (entriesOf (h .sessions)) there in
       let body = length-body tag (h .handles) (layoutEntries 4 (entriesHanded h)) (h .parameters) in
       omega arith
 
   pub success-total : (tag : ℕ) → totalSize 0 tag h ≡ 10 + length (layoutBody tag (h .handles) (h .parameters) (layoutEntries 0 (entriesHanded h)))
   success-total tag =
-      let entries = length-sessions (h .lent) 0 (entriesOf (h .sessions)) there in
+      let entries = length-sessions limit (h .lent) 0 (entriesOf (h .sessions)) there in
       let body = length-body tag (h .handles) (h .parameters) (layoutEntries 0 (entriesHanded h)) in
       omega arith
 
@@ -62,17 +69,10 @@ module _ (h : Handed) (there : sessionsThere (length (h .lent)) (entriesOf (h .s
   length-command tag code =
       length-frame tag code (layoutBody tag (h .handles) (layoutEntries 4 (entriesHanded h)) (h .parameters)) ∙ sym (command-total tag)
 
-  pub success-layout : layoutResponse (successFrame h)
-      ≡ layoutFrame (tagFor (h .sessions .count)) 0 (layoutBody (tagFor (h .sessions .count)) (h .handles) (h .parameters) (layoutEntries 0 (entriesHanded h)))
-  unfolding layoutResponse
-  success-layout =
-      ap (λ (es : List ℕ). layoutFrame (tagFor (h .sessions .count)) 0 (layoutBody (tagFor (h .sessions .count)) (h .handles) (h .parameters) es))
-      (without-handles (entriesHanded h))
-
   pub length-success : length (layoutResponse (successFrame h)) ≡ totalSize 0 (tagFor (h .sessions .count)) h
   length-success =
       let tag = tagFor (h .sessions .count) in
-      ap length success-layout
+      ap length (success-layout h)
       ∙ length-frame tag 0 (layoutBody tag (h .handles) (h .parameters) (layoutEntries 0 (entriesHanded h)))
       ∙ sym (success-total tag)
 

@@ -6,7 +6,7 @@
 -- ResponseWriting, Taking, TooLarge).
 -- Assumes nothing.
 use mathlib.Core.Path.{_≡_, refl, _∙_, ap}
-use mathlib.Core.Bool.{Bool, true}
+use mathlib.Core.Bool.{Bool, true, false≢true}
 use mathlib.Core.List.{List, [], _∷_, _++_}
 use mathlib.Core.Logic.{_↔_}
 use Prim.Native.Nat.{ℕ, _+_, _-_, _≤_, _<_}
@@ -62,7 +62,7 @@ has-code code r found = row-known code found
 -- what is asked for in a mode is there in the rules that go with it
 mode-may : (m : Mode) → asksBadTag m ≡ true → admitsBadTag (readingOf m) ≡ true
 mode-may mode.Rust e = e
-mode-may mode.Standard e = refl
+mode-may mode.Standard e = absurd (false≢true e)
 mode-may mode.BadTag e = refl
 
 may-ask : (rules : ResponseRules) → asked rules ≡ true → bookFor rules .answersBadTag ≡ true
@@ -146,7 +146,7 @@ module _ (book : Rulebook) (tag code : ℕ) (h : Handed) (room : List ℕ) (x : 
   -- a bare command is refused, and 7 is the answer exactly where the total is too large
   abbrev pub CommandWrites : Type 0
   CommandWrites =
-      Writes (λ s. commandByValue s (readCommand book s)) commandParts layoutCommand (CommandFormed book)
+      Writes (book .longest) (λ s. commandByValue s (readCommand book s)) commandParts layoutCommand (CommandFormed book)
       CommandFrom (λ c. Bare (c .tag .0) (c .entries .count)) h code (commandFrame tag code h) room x later
       × ((s : List ℕ) (c : Command) → CommandFrom s c → Bare (c .tag .0) (c .entries .count) → Refused room x later (3 ∷ 0 ∷ 0x8002 ∷ []))
       × ((n : ℕ) → (saidCount x ≡ refuses (7 ∷ 0 ∷ n ∷ [])) ↔ CommandTooLarge book tag code h n)
@@ -160,7 +160,7 @@ module _ (book : Rulebook) (tag code : ℕ) (h : Handed) (room : List ℕ) (x : 
       let back : (s : List ℕ) (c : Command) → CommandFrom s c
       → commandSaid ≡ writeCommand book (c .tag .0) (c .cc .0) (commandHanded s c) (length room) =
       λ s c from i. writeCommand book (from .0 i) (from .1 i) (from .2 i) (length room) in (
-        writes room x later commandSaid answer bytes _ commandParts layoutCommand (CommandFormed book) CommandFrom _ h code _
+        writes room x later commandSaid answer bytes (book .longest) _ commandParts layoutCommand (CommandFormed book) CommandFrom _ h code _
             (λ t given types fits. command-taken book tag code h (length room) given types fits)
             (taken-command book tag code h (length room))
             (λ t given types fits. command.command-reads book has two-tags tag code h (length room) given types fits)
@@ -189,7 +189,7 @@ module _ (book : Rulebook) (asks : Bool) (cc code : ℕ) (h : Handed) (room : Li
   -- a bare response comes out four bytes shorter, and 7 is the answer exactly where the total is too large
   abbrev pub ResponseWrites : Type 0
   ResponseWrites =
-      Writes (λ s. responseByValue s (readResponse book cc s)) responseParts layoutResponse (ResponseParts book cc)
+      Writes (book .longest) (λ s. responseByValue s (readResponse book cc s)) responseParts layoutResponse (ResponseParts book cc)
       ResponseFrom (λ r. Bare (r .tag .0) (r .entries .count)) h code (responseFrame asks code h) room x later
       × ((s : List ℕ) → AreBytes s → (r : Response) → responseByValue s (readResponse book cc s) ≡ gives r → ResponseFrom s r
       → Bare (r .tag .0) (r .entries .count) → length s - 4 ≤ length room
@@ -204,7 +204,7 @@ module _ (book : Rulebook) (asks : Bool) (cc code : ℕ) (h : Handed) (room : Li
       let back : (s : List ℕ) (r : Response) → ResponseFrom s r
       → responseSaid ≡ writeResponse book (eqb (r .tag .0) rspCommand) cc (r .rc .0) (responseHanded s r) (length room) =
       λ s r from i. writeResponse book (from .0 i) cc (from .1 i) (from .2 i) (length room) in (
-        writes room x later responseSaid answer bytes _ responseParts layoutResponse (ResponseParts book cc) ResponseFrom _ h code _
+        writes room x later responseSaid answer bytes (book .longest) _ responseParts layoutResponse (ResponseParts book cc) ResponseFrom _ h code _
             (λ t given types fits. response-taken book asks cc code h (length room) may given types fits)
             (taken-response book asks cc code h (length room))
             (λ t given types fits. response.response-reads book cc asks may code h (length room) given types fits)

@@ -14,8 +14,9 @@ use Rattle.base.proofs.Places.{length-read}
 use Rattle.frame.specs.declared.session.Field.{Field}
 use Rattle.frame.specs.declared.session.Session.{Session}
 use Rattle.frame.specs.Layout.{layoutEntry, layoutEntries}
-use Rattle.frame.specs.Parts.{fieldIn, entryIn, entriesIn}
+use Rattle.frame.specs.Parts.{fieldIn, Kept, EachField, entryIn, entriesIn}
 use Rattle.frame.proofs.EntryLaws.{length-entry}
+use Rattle.frame.proofs.WalkLaws.{each-field}
 use Rattle.marshal.specs.Write.{fieldThere, sessionThere, sessionsThere, entryLength, entriesLength}
 
 -- a position within the bytes, and what is left behind it, tell whether their sum is within; one past the end is not
@@ -29,18 +30,26 @@ sum-inside place size len h = by (leb size (len - place)) refl
 pub past : (place size len : ℕ) → len < place → leb place len ≡ leb (place + size) len
 past place size len h = lt-leb place len h ∙ sym (lt-leb (place + size) len (omega arith))
 
-pub field-inside : (len : ℕ) (f : Field) → fieldThere len f ≡ gives tt → f .at + f .size ≤ len
-field-inside len f e = leb-true (f .at + f .size) len (needs-gives (leb (f .at + f .size) len) _ _ e .0)
+module _ (limit : ℕ) where
+  -- the check of a field says just that it is kept
+  pub field-inside : (len : ℕ) (f : Field) → fieldThere limit len f ≡ gives tt → Kept limit len f
+  field-inside len f e =
+      let few = needs-gives (leb (f .size) limit) _ _ e in
+      let there = needs-gives (leb (f .at + f .size) len) _ _ (few .1) in
+      (leb-true (f .size) limit (few .0), leb-true (f .at + f .size) len (there .0))
 
-module _ (lent : List ℕ) where
-  pub length-field : (f : Field) → fieldThere (length lent) f ≡ gives tt → length (fieldIn lent f) ≡ f .size
-  length-field f e = length-read lent (f .at) (f .size) (field-inside (length lent) f e)
+  pub inside-field : (len : ℕ) (f : Field) → Kept limit len f → fieldThere limit len f ≡ gives tt
+  inside-field len f kept = rw (le-leb (f .size) limit (kept .0), le-leb (f .at + f .size) len (kept .1)) refl
 
-  pub session-fields : (e : Session) → sessionThere (length lent) e ≡ gives tt
-      → (fieldThere (length lent) (e .nonce) ≡ gives tt) × (fieldThere (length lent) (e .hmac) ≡ gives tt)
-  session-fields e h = let nonce = then-gives (fieldThere (length lent) (e .nonce)) _ h in (nonce .1, nonce .2)
+module _ (limit : ℕ) (lent : List ℕ) where
+  pub length-field : (f : Field) → fieldThere limit (length lent) f ≡ gives tt → length (fieldIn lent f) ≡ f .size
+  length-field f e = length-read lent (f .at) (f .size) (field-inside limit (length lent) f e .1)
 
-  pub length-session : (width : ℕ) (e : Session) → sessionThere (length lent) e ≡ gives tt
+  pub session-fields : (e : Session) → sessionThere limit (length lent) e ≡ gives tt
+      → (fieldThere limit (length lent) (e .nonce) ≡ gives tt) × (fieldThere limit (length lent) (e .hmac) ≡ gives tt)
+  session-fields e h = let nonce = then-gives (fieldThere limit (length lent) (e .nonce)) _ h in (nonce .1, nonce .2)
+
+  pub length-session : (width : ℕ) (e : Session) → sessionThere limit (length lent) e ≡ gives tt
       → length (layoutEntry width (entryIn lent e)) ≡ entryLength width e
   length-session width e h =
       let both = session-fields e h in
@@ -48,15 +57,37 @@ module _ (lent : List ℕ) where
       let hmac = length-field (e .hmac) (both .1) in
       length-entry width (entryIn lent e) ∙ omega arith
 
-  pub sessions-first : (e : Session) (es : List Session) → sessionsThere (length lent) (e ∷ es) ≡ gives tt
-      → (sessionThere (length lent) e ≡ gives tt) × (sessionsThere (length lent) es ≡ gives tt)
+  pub sessions-first : (e : Session) (es : List Session) → sessionsThere limit (length lent) (e ∷ es) ≡ gives tt
+      → (sessionThere limit (length lent) e ≡ gives tt) × (sessionsThere limit (length lent) es ≡ gives tt)
   unfolding sessionsThere
-  sessions-first e es h = let first = then-gives (sessionThere (length lent) e) _ h in (first .1, first .2)
+  sessions-first e es h = let first = then-gives (sessionThere limit (length lent) e) _ h in (first .1, first .2)
 
-  pub length-sessions : (width : ℕ) (es : List Session) → sessionsThere (length lent) es ≡ gives tt
+  pub length-sessions : (width : ℕ) (es : List Session) → sessionsThere limit (length lent) es ≡ gives tt
       → length (layoutEntries width (entriesIn lent es)) ≡ entriesLength width es
   length-sessions width [] h = refl
   length-sessions width (e ∷ es) h =
       let both = sessions-first e es h in
       length-append (layoutEntry width (entryIn lent e)) (layoutEntries width (entriesIn lent es))
       ∙ (λ i. length-session width e (both .0) i + length-sessions width es (both .1) i)
+
+-- ---- the check of the sessions says just that all their fields are kept
+
+module _ (limit len : ℕ) where
+  pub there-kept : (es : List Session) → sessionsThere limit len es ≡ gives tt → EachField (Kept limit len) es
+  unfolding sessionsThere
+  there-kept [] e = tt
+  there-kept (x ∷ es) e =
+      let first = then-gives (sessionThere limit len x) _ e in
+      let nonce = then-gives (fieldThere limit len (x .nonce)) _ (first .1) in
+      ((field-inside limit len (x .nonce) (nonce .1), field-inside limit len (x .hmac) (nonce .2)), there-kept es (first .2))
+
+  pub kept-there : (es : List Session) → EachField (Kept limit len) es → sessionsThere limit len es ≡ gives tt
+  unfolding sessionsThere
+  kept-there [] k = refl
+  kept-there (x ∷ es) k =
+      rw (inside-field limit len (x .nonce) (k .0 .0), inside-field limit len (x .hmac) (k .0 .1)) (kept-there es (k .1))
+
+-- and so what is there by a limit is there by a looser one
+pub there-looser : (limit other len : ℕ) (es : List Session) → limit ≤ other → sessionsThere limit len es ≡ gives tt → sessionsThere other len es ≡ gives tt
+there-looser limit other len es more e =
+    kept-there other len es (each-field (λ f kept. let few = kept .0 in (omega arith, kept .1)) es (there-kept limit len es e))

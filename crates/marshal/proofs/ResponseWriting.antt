@@ -99,7 +99,7 @@ module _ (book : Rulebook) (cc : ℕ) where
         elim (p .either-kind) [
           | inl success ↦
               let small : length t ≤ 4294967295 = success .2 .small in
-              let parts : SuccessParts (p .row .responses) (successFrame h) =
+              let parts : SuccessParts book (p .row .responses) (successFrame h) =
               record {
                 success = refl;
                 well-formed = record {
@@ -107,7 +107,7 @@ module _ (book : Rulebook) (cc : ℕ) where
                   code-fits = omega arith;
                   handle-bytes = types .handle-bytes;
                   handle-count = success .2 .handle-count;
-                  whole-entries = whole-without (entriesHanded h) (whole-sessions h types (success .2 .there));
+                  whole-entries = whole-without (book .longest) (entriesHanded h) (whole-sessions (book .longest) h types (success .2 .there));
                   three-entries = rw (length-without, length-entries) (three-at-most (h .sessions));
                   plain-entries = λ q. ap withoutHandles (no-entries tag h refl q);
                   parameter-bytes = types .parameter-bytes;
@@ -147,22 +147,22 @@ module _ (book : Rulebook) (cc : ℕ) where
     formed : ResponseParts book cc (responseParts s r) × (layoutResponse (responseParts s r) ≡ s)
     formed = response-divides book cc .again s are r read
 
-    stand : Stand s (r .entries)
+    stand : Stand (book .longest) s (r .entries)
     unfolding readResponse
     stand =
         let division = then-gives (readResponse book cc s) _ read in
         let areas = then-gives (responseAreas book cc s) _ (division .1) in
-        let entries = then-gives (walk 3 0 s (areas .0 .to)) _ (areas .2) in
+        let entries = then-gives (walk (book .longest) 3 0 s (areas .0 .to)) _ (areas .2) in
         let same : byValue (entries .0) ≡ r .entries =
         ap (λ (d : Division). byValue (d .entries)) (gives-injective (entries .2)) ∙ ap (λ (k : Response). k .entries) (gives-injective (division .2)) in
-        subst (Stand s) same (walk-stands 0 s (areas .0 .to) s (omega arith) (entries .1))
+        subst (Stand (book .longest) s) same (walk-stands (book .longest) 0 s (areas .0 .to) s (omega arith) (entries .1))
 
-    not-asked : {responses : ℕ} → SuccessParts responses (responseParts s r) → asks ≡ false
+    not-asked : {responses : ℕ} → SuccessParts book responses (responseParts s r) → asks ≡ false
     unfolding responseParts
     not-asked success =
         of-two (λ (tag : ℕ). eqb tag rspCommand ≡ false) refl refl (r .tag .0) (is-of-two (r .tag .0) (success .well-formed .tag-of-two))
 
-    success-again : {responses : ℕ} → SuccessParts responses (responseParts s r) → (row : Row) → rowFor (book .rows) cc ≡ gives row → responses ≡ row .responses
+    success-again : {responses : ℕ} → SuccessParts book responses (responseParts s r) → (row : Row) → rowFor (book .rows) cc ≡ gives row → responses ≡ row .responses
         → (room : ℕ) → length s ≤ room → r .tag .0 ≡ tagFor (r .entries .count) → writeResponse book asks cc (r .rc .0) h room ≡ gives s
     unfolding responseParts
     success-again success row found of room enough tag =
@@ -172,7 +172,7 @@ module _ (book : Rulebook) (cc : ℕ) where
           tag = sym tag i;
           code = sym zero i;
           handles = h .handles;
-          entries = no-handles (entriesHanded h) (success .well-formed .whole-entries) i;
+          entries = no-handles (book .longest) (entriesHanded h) (success .well-formed .whole-entries) i;
           parameters = h .parameters;
         } in
         let layout : layoutResponse (successFrame h) ≡ s = ap layoutResponse same ∙ formed .1 in
@@ -181,7 +181,7 @@ module _ (book : Rulebook) (cc : ℕ) where
         ∙ passed-success book asks cc (r .rc .0) h room (row .responses) {n = length s} (record {
           handle-count = rw of at (success .well-formed .handle-count);
           there = stand .1;
-          total-is = ap length (sym layout) ∙ length-success h (stand .1);
+          total-is = ap length (sym layout) ∙ length-success (book .longest) h (stand .1);
           small = omega arith;
           room-for = enough;
         })
@@ -224,7 +224,7 @@ module _ (book : Rulebook) (cc : ℕ) where
 
     -- .. but success under the sessions tag with no entry comes out under the plain tag, four bytes shorter
 
-    module _ {responses : ℕ} (success : SuccessParts responses (responseParts s r)) (tag : r .tag .0 ≡ sessions) (none : r .entries .count ≡ 0) where
+    module _ {responses : ℕ} (success : SuccessParts book responses (responseParts s r)) (tag : r .tag .0 ≡ sessions) (none : r .entries .count ≡ 0) where
       no-entry : layoutEntries 0 (entriesHanded h) ≡ []
       no-entry = ap (λ (es : List Session). layoutEntries 0 (entriesIn s es)) (entries-none (r .entries) none)
 
@@ -246,7 +246,7 @@ module _ (book : Rulebook) (cc : ℕ) where
           let sum = long in
           let both = length-append (h .handles) (h .parameters) in
           let size : 10 + length (h .handles ++ h .parameters) ≡ length s - 4 = omega arith in
-          success-layout h (stand .1)
+          success-layout h
           ∙ (λ i. layoutFrame (is-plain i) 0 (layoutBody (is-plain i) (h .handles) (h .parameters) (no-entry i)))
           ∙ ap (λ (t : List ℕ). layoutFrame 0x8001 0 (h .handles ++ t)) (append-nil (h .parameters))
           ∙ ap (λ (n : ℕ). bytes 2 0x8001 ++ (bytes 4 n ++ (bytes 4 0 ++ (h .handles ++ h .parameters)))) size
@@ -267,7 +267,7 @@ module _ (book : Rulebook) (cc : ℕ) where
                     ∙ passed-success book asks cc (r .rc .0) h room (parts .row .responses) {n = length (shorter s r)} (record {
                       handle-count = success .well-formed .handle-count;
                       there = stand .1;
-                      total-is = ap length (sym layout) ∙ length-success h (stand .1);
+                      total-is = ap length (sym layout) ∙ length-success (book .longest) h (stand .1);
                       small = omega arith;
                       room-for = omega arith;
                     })

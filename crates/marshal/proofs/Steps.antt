@@ -15,6 +15,7 @@ use Rattle.frame.specs.declared.session.Session.{Session}
 use Rattle.frame.specs.Layout.{Entry, layoutEntry, layoutEntries}
 use Rattle.frame.specs.Parts.{fieldIn, entryIn, entriesIn}
 use Rattle.marshal.specs.Laid.{Puts, layoutSigned}
+use Rattle.frame.specs.Rules.{unlimited}
 use Rattle.marshal.specs.Write.{fieldThere}
 use Rattle.marshal.proofs.Lengths.{length-field}
 use Rattle.marshal.proofs.Rooms.{room-first, room-next, puts-next, puts-byte}
@@ -29,11 +30,11 @@ part-is lent f =
     let long : f .at + f .size - f .at ≡ f .size = omega arith in
     ap (λ (k : ℕ). take k (drop (f .at) lent)) long
 
-module _ (lent : List ℕ) (f : Field) (there : fieldThere (length lent) f ≡ gives tt) (place : ℕ) (room : List ℕ)
+module _ (lent : List ℕ) (f : Field) (there : fieldThere unlimited (length lent) f ≡ gives tt) (place : ℕ) (room : List ℕ)
     (fits : place + length (tpm2b (fieldIn lent f)) ≤ length room)
     {next : ℕ} {later : List ℕ} (size : Puts place (bytes 2 (f .size)) room next later) where
   size-is : Puts place (bytes 2 (length (fieldIn lent f))) room next later
-  size-is = rw (length-field lent f there) size
+  size-is = rw (length-field unlimited lent f there) size
 
   pub data-room : next + length (take (f .at + f .size - f .at) (drop (f .at) lent)) ≤ length later
   data-room = rw (part-is lent f) (room-next place (bytes 2 (length (fieldIn lent f))) (fieldIn lent f) room fits size-is)

@@ -1,61 +1,38 @@
 -- Which frames the writers take, by any rules: those whose parts are well formed (and a command under the sessions tag has an entry), with
--- as many entries as sessions were counted, each nonce and HMAC within the lent bytes, and room for the layout. What is taken is laid out.
+-- as many entries as sessions were counted, each nonce and HMAC within the limit and the lent bytes, and room for the layout. What is taken is laid out.
 -- Assumes nothing.
 use mathlib.Core.Path.{_≡_, refl, sym, _∙_, ap}
 use mathlib.Core.Bool.{Bool, true, false, cond, false≢true}
-use mathlib.Core.List.{List, [], _∷_}
+use mathlib.Core.List.{List, []}
 use mathlib.Core.Logic.{_⊎_, inl, inr}
-use Prim.Native.Nat.{ℕ, _+_, _≤_, _<_}
+use Prim.Native.Nat.{ℕ, _≤_, _<_}
 use native.Mathlib.Omega.{arith}
-use borrow.Author.Tests.{le-leb, eqb-true, eq-eqb}
+use borrow.Author.Tests.{eqb-true, eq-eqb}
 use lib.Dec.{eqb}
 use lib.ListN.{length}
 use Rattle.base.specs.Said.{gives}
-use Rattle.frame.specs.declared.session.Session.{Session}
 use Rattle.frame.specs.Header.{plain, sessions}
 use Rattle.frame.specs.Layout.{Frame, CommandParts, ResponseParts, layoutCommand, layoutResponse}
-use Rattle.frame.specs.Parts.{entriesIn, entriesOf}
+use Rattle.frame.specs.Parts.{Kept, EachField, entriesIn, entriesOf}
 use Rattle.frame.specs.Rules.{Rulebook}
 use Rattle.frame.proofs.BadTags.{erring}
 use Rattle.frame.proofs.FrameLaws.{is-of-two}
 use Rattle.marshal.specs.Handed.{Handed, tagFor, entriesHanded, commandFrame, successFrame, errorTag, errorFrame}
-use Rattle.marshal.specs.Write.{sessionsThere, writeCommand, writeResponse}
+use Rattle.marshal.specs.Write.{writeCommand, writeResponse}
 use Rattle.marshal.proofs.CommandWriting.{command-formed}
 use Rattle.marshal.proofs.Frames.{length-command, length-success}
-use Rattle.marshal.proofs.Lengths.{field-inside, session-fields, sessions-first}
+use Rattle.marshal.proofs.Lengths.{there-kept, kept-there}
 use Rattle.marshal.proofs.Parts.{OfTypes, count-is, length-without, tag-goes}
 use Rattle.marshal.proofs.ResponseWriting.{responseFrame, frame-errs, parted-errs, response-formed}
 use Rattle.marshal.proofs.Sessions.{entries-none}
 use Rattle.marshal.proofs.Writers.{Errs, command-passed, passed-command, response-passed, passed-success, success-is, error-is, length-error}
 
--- the nonce and the HMAC of each session end within so many lent bytes
-abbrev pub Within : ℕ → List Session → Type 0
-Within len [] = Unit {0}
-Within len (e ∷ es) = ((e .nonce .at + e .nonce .size ≤ len) × (e .hmac .at + e .hmac .size ≤ len)) × Within len es
-
--- a frame that can be written from what was handed over
-pub record Taken (Formed : Frame → Type 0) (layout : Frame → List ℕ) (asked : Frame) (h : Handed) (room : ℕ) : Type 0 where
+-- a frame that can be written from what was handed over, with nonces and HMACs of at most so many bytes
+pub record Taken (limit : ℕ) (Formed : Frame → Type 0) (layout : Frame → List ℕ) (asked : Frame) (h : Handed) (room : ℕ) : Type 0 where
   pub formed : Formed asked
   pub all-sessions : length (asked .entries) ≡ h .sessions .count
-  pub within : Within (length (h .lent)) (entriesOf (h .sessions))
+  pub kept : EachField (Kept limit (length (h .lent))) (entriesOf (h .sessions))
   pub room-for : length (layout asked) ≤ room
-
--- ---- the check of the sessions says just this
-
-module _ (lent : List ℕ) where
-  there-within : (es : List Session) → sessionsThere (length lent) es ≡ gives tt → Within (length lent) es
-  there-within [] e = tt
-  there-within (x ∷ es) e =
-      let both = sessions-first lent x es e in
-      let fields = session-fields lent x (both .0) in
-      ((field-inside (length lent) (x .nonce) (fields .0), field-inside (length lent) (x .hmac) (fields .1)), there-within es (both .1))
-
-  within-there : (es : List Session) → Within (length lent) es → sessionsThere (length lent) es ≡ gives tt
-  unfolding sessionsThere
-  within-there [] w = refl
-  within-there (x ∷ es) w =
-      rw (le-leb (x .nonce .at + x .nonce .size) (length lent) (w .0 .0), le-leb (x .hmac .at + x .hmac .size) (length lent) (w .0 .1))
-      (within-there es (w .1))
 
 module _ (book : Rulebook) where
   -- ---- commands
@@ -66,7 +43,7 @@ module _ (book : Rulebook) where
 
   module _ (tag code : ℕ) (h : Handed) (room : ℕ) where
     pub command-taken : {t : List ℕ} → writeCommand book tag code h room ≡ gives t → OfTypes h → code < 4294967296
-        → Taken CommandFormed layoutCommand (commandFrame tag code h) h room
+        → Taken (book .longest) CommandFormed layoutCommand (commandFrame tag code h) h room
     command-taken written types fits =
         let p = command-passed book tag code h room written in
         let formed = command-formed book tag code h room written types fits in
@@ -80,16 +57,16 @@ module _ (book : Rulebook) where
                 omega arith),
           );
           all-sessions = count;
-          within = there-within (h .lent) (entriesOf (h .sessions)) (p .fits .there);
+          kept = there-kept (book .longest) (length (h .lent)) (entriesOf (h .sessions)) (p .fits .there);
           room-for = rw (← p .layout-is) (p .fits .room-for);
         }
 
-    pub taken-command : Taken CommandFormed layoutCommand (commandFrame tag code h) h room
+    pub taken-command : Taken (book .longest) CommandFormed layoutCommand (commandFrame tag code h) h room
         → writeCommand book tag code h room ≡ gives (layoutCommand (commandFrame tag code h))
     taken-command t =
         let parts = t .formed .0 in
         let w = parts .well-formed in
-        let there = within-there (h .lent) (entriesOf (h .sessions)) (t .within) in
+        let there = kept-there (book .longest) (length (h .lent)) (entriesOf (h .sessions)) (t .kept) in
         let small = parts .size-fits in
         passed-command book tag code h room (record {
           tag-is =
@@ -101,7 +78,7 @@ module _ (book : Rulebook) where
           fits = record {
             handle-count = w .handle-count;
             there = there;
-            total-is = length-command h there tag code;
+            total-is = length-command (book .longest) h there tag code;
             small = omega arith;
             room-for = t .room-for;
           };
@@ -112,7 +89,7 @@ module _ (book : Rulebook) where
 
   module _ (asked : Bool) (cc code : ℕ) (h : Handed) (room : ℕ) where
     pub response-taken : (asked ≡ true → book .answersBadTag ≡ true) → {t : List ℕ} → writeResponse book asked cc code h room ≡ gives t → OfTypes h
-        → code < 4294967296 → Taken (ResponseParts book cc) layoutResponse (responseFrame asked code h) h room
+        → code < 4294967296 → Taken (book .longest) (ResponseParts book cc) layoutResponse (responseFrame asked code h) h room
     response-taken may {t} written types fits =
         let p = response-passed book asked cc code h room written in
         let formed = response-formed book cc asked may code h room written types fits in
@@ -124,20 +101,20 @@ module _ (book : Rulebook) where
                 formed = formed .0;
                 all-sessions =
                     ap (λ (f : Frame). length (f .entries)) frame ∙ length-without (entriesHanded h) ∙ count-is (h .lent) (h .sessions) (p .few);
-                within = there-within (h .lent) (entriesOf (h .sessions)) (success .2 .there);
+                kept = there-kept (book .longest) (length (h .lent)) (entriesOf (h .sessions)) (success .2 .there);
                 room-for = room-for (success .2 .room-for);
               }
           | inr error ↦ record {
             formed = formed .0;
             all-sessions = ap (λ (f : Frame). length (f .entries)) (frame-errs asked code h (error .0)) ∙ sym (error .1);
-            within = rw (entries-none (h .sessions) (error .1)) tt;
+            kept = rw (entries-none (h .sessions) (error .1)) tt;
             room-for = room-for (let ten : length t ≡ 10 = ap length (error .2) ∙ length-error asked code in let most = error .3 in omega arith);
           }
         ]
 
   -- a bare header is written where it can be
   error-written : (asked : Bool) (cc code : ℕ) (h : Handed) (room : ℕ)
-      → Taken (ResponseParts book cc) layoutResponse (errorFrame asked code) h room → Errs asked code
+      → Taken (book .longest) (ResponseParts book cc) layoutResponse (errorFrame asked code) h room → Errs asked code
       → writeResponse book asked cc code h room ≡ gives (layoutResponse (errorFrame asked code))
   error-written asked cc code h room t errs =
       let none : h .sessions .count ≡ 0 = sym (t .all-sessions) in
@@ -146,7 +123,7 @@ module _ (book : Rulebook) where
       error-is book asked cc code h room (omega arith) (sym (t .formed .has-row)) errs none (omega arith)
 
   error-taken : (asked : Bool) (cc code : ℕ) (h : Handed) (room : ℕ) → (eqb code 0 ≡ true → asked ≡ true)
-      → Taken (ResponseParts book cc) layoutResponse (errorFrame asked code) h room
+      → Taken (book .longest) (ResponseParts book cc) layoutResponse (errorFrame asked code) h room
       → writeResponse book asked cc code h room ≡ gives (layoutResponse (errorFrame asked code))
   error-taken asked cc code h room failed t = elim (t .formed .either-kind) [
     | inl success ↦ absurd (no-success asked (failed (eq-eqb code 0 (success .success))) (success .well-formed .tag-of-two))
@@ -159,24 +136,24 @@ module _ (book : Rulebook) where
       no-success false e either = false≢true e
 
   pub taken-response : (asked : Bool) (cc code : ℕ) (h : Handed) (room : ℕ)
-      → Taken (ResponseParts book cc) layoutResponse (responseFrame asked code h) h room
+      → Taken (book .longest) (ResponseParts book cc) layoutResponse (responseFrame asked code h) h room
       → writeResponse book asked cc code h room ≡ gives (layoutResponse (responseFrame asked code h))
   taken-response true cc code h room t = error-taken true cc code h room (λ zero. refl) t
   taken-response false cc code h room t = by (eqb code 0) refl t
     where
       by : (b : Bool) → eqb code 0 ≡ b
-          → Taken (ResponseParts book cc) layoutResponse (cond b (successFrame h) (errorFrame false code)) h room
+          → Taken (book .longest) (ResponseParts book cc) layoutResponse (cond b (successFrame h) (errorFrame false code)) h room
           → writeResponse book false cc code h room ≡ gives (layoutResponse (cond b (successFrame h) (errorFrame false code)))
       by true e t = elim (t .formed .either-kind) [
         | inl success ↦
             let w = success .well-formed in
             let small = success .size-fits in
-            let there = within-there (h .lent) (entriesOf (h .sessions)) (t .within) in
+            let there = kept-there (book .longest) (length (h .lent)) (entriesOf (h .sessions)) (t .kept) in
             sym (success-is book false cc code h room (rw (t .all-sessions) at (w .three-entries)) (sym (t .formed .has-row)) refl (eqb-true code 0 e))
             ∙ passed-success book false cc code h room (t .formed .row .responses) {n = length (layoutResponse (successFrame h))} (record {
               handle-count = w .handle-count;
               there = there;
-              total-is = length-success h there;
+              total-is = length-success (book .longest) h there;
               small = omega arith;
               room-for = t .room-for;
             })

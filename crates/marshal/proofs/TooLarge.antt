@@ -60,7 +60,7 @@ passed : {A : Type 0} (t : Bool) (why : List ℕ) (rest : Said A) {w : List ℕ}
     → (t ≡ true) × (rest ≡ refuses w)
 passed t why rest {w} other e = elim (needs-refuses t why rest e) [ inl p ↦ p | inr same ↦ absurd (other (ap (λ (l : List ℕ). getD l 0 0) (same .1))) ]
 
--- a row is refused with 4, a session with 1
+-- a row is refused with 4, a session with 8 or 1
 row-number : (rows : List Row) (code : ℕ) {w : List ℕ} → rowFor rows code ≡ refuses w → getD w 0 0 ≡ 4
 row-number [] code e = ap (λ (l : List ℕ). getD l 0 0) (sym (refuses-injective e))
 row-number (r ∷ rows) code e = elim (cond-refuses (eqb code (r .code)) (gives r) (rowFor rows code) e) [
@@ -68,41 +68,40 @@ row-number (r ∷ rows) code e = elim (cond-refuses (eqb code (r .code)) (gives 
   | inr other ↦ row-number rows code (other .1)
 ]
 
-field-number : (len : ℕ) (f : Field) {w : List ℕ} → fieldThere len f ≡ refuses w → getD w 0 0 ≡ 1
-field-number len f e = elim (needs-refuses (leb (f .at + f .size) len) _ (gives tt) e) [
-  | inl p ↦ absurd (gives≢refuses (p .1))
-  | inr same ↦ ap (λ (l : List ℕ). getD l 0 0) (sym (same .1))
-]
+field-number : (limit len : ℕ) (f : Field) {w : List ℕ} → fieldThere limit len f ≡ refuses w → getD w 0 0 ≡ 7 → ⊥
+field-number limit len f e seven =
+    let there = passed (leb (f .size) limit) _ _ (λ q. omega arith) e in
+    gives≢refuses (passed (leb (f .at + f .size) len) _ (gives tt) (λ q. omega arith) (there .1) .1)
 
-session-number : (len : ℕ) (es : List Session) {w : List ℕ} → sessionsThere len es ≡ refuses w → getD w 0 0 ≡ 1
+session-number : (limit len : ℕ) (es : List Session) {w : List ℕ} → sessionsThere limit len es ≡ refuses w → getD w 0 0 ≡ 7 → ⊥
 unfolding sessionsThere
-session-number len [] e = absurd (gives≢refuses e)
-session-number len (x ∷ es) e = elim (then-refuses (sessionThere len x) _ e) [
-  | inl p ↦ session-number len es (p .2)
-  | inr first ↦ elim (then-refuses (fieldThere len (x .nonce)) _ first) [
-    | inl p ↦ field-number len (x .hmac) (p .2)
-    | inr nonce ↦ field-number len (x .nonce) nonce
+session-number limit len [] e = absurd (gives≢refuses e)
+session-number limit len (x ∷ es) e = elim (then-refuses (sessionThere limit len x) _ e) [
+  | inl p ↦ session-number limit len es (p .2)
+  | inr first ↦ elim (then-refuses (fieldThere limit len (x .nonce)) _ first) [
+    | inl p ↦ field-number limit len (x .hmac) (p .2)
+    | inr nonce ↦ field-number limit len (x .nonce) nonce
   ]
 ]
 
 -- ---- behind the handles
 
-pub record TooLarge (width tag handles : ℕ) (h : Handed) (n : ℕ) : Type 0 where
+pub record TooLarge (limit width tag handles : ℕ) (h : Handed) (n : ℕ) : Type 0 where
   pub handle-count : length (h .handles) ≡ 4 * handles
-  pub there : sessionsThere (length (h .lent)) (entriesOf (h .sessions)) ≡ gives tt
+  pub there : sessionsThere limit (length (h .lent)) (entriesOf (h .sessions)) ≡ gives tt
   pub large : 4294967295 < totalSize width tag h
   pub told : n ≡ capped (totalSize width tag h)
 
-module _ (width tag handles : ℕ) (h : Handed) (room n : ℕ) where
-  judged-too-large : judged width tag handles h room ≡ refuses (7 ∷ 0 ∷ n ∷ []) → TooLarge width tag handles h n
+module _ (limit width tag handles : ℕ) (h : Handed) (room n : ℕ) where
+  judged-too-large : judged limit width tag handles h room ≡ refuses (7 ∷ 0 ∷ n ∷ []) → TooLarge limit width tag handles h n
   unfolding judged
   judged-too-large e =
       let few = passed (leb (4 * handles) (length (h .handles))) _ _ (λ q. omega arith) e in
       let many = passed (leb (length (h .handles)) (4 * handles)) _ _ (λ q. omega arith) (few .1) in
       let low = leb-true (4 * handles) (length (h .handles)) (few .0) in
       let high = leb-true (length (h .handles)) (4 * handles) (many .0) in
-      elim (then-refuses (sessionsThere (length (h .lent)) (entriesOf (h .sessions))) _ (many .1)) [
-        | inr missing ↦ let one = session-number (length (h .lent)) (entriesOf (h .sessions)) missing in absurd (omega arith)
+      elim (then-refuses (sessionsThere limit (length (h .lent)) (entriesOf (h .sessions))) _ (many .1)) [
+        | inr missing ↦ absurd (session-number limit (length (h .lent)) (entriesOf (h .sessions)) missing refl)
         | inl p ↦ elim (needs-refuses (leb (totalSize width tag h) 4294967295) _ (fitted (totalSize width tag h) room) (p .2)) [
           | inl q ↦ absurd (gives≢refuses (passed (leb (totalSize width tag h) room) _ (gives (totalSize width tag h)) (λ q. omega arith) (q .1) .1))
           | inr large ↦ record {
@@ -114,7 +113,7 @@ module _ (width tag handles : ℕ) (h : Handed) (room n : ℕ) where
         ]
       ]
 
-  too-large-judged : TooLarge width tag handles h n → judged width tag handles h room ≡ refuses (7 ∷ 0 ∷ n ∷ [])
+  too-large-judged : TooLarge limit width tag handles h n → judged limit width tag handles h room ≡ refuses (7 ∷ 0 ∷ n ∷ [])
   unfolding judged
   too-large-judged t =
       let count = t .handle-count in
@@ -128,7 +127,7 @@ pub record CommandTooLarge (book : Rulebook) (tag code : ℕ) (h : Handed) (n : 
   pub few : h .sessions .count ≤ 3
   pub row : Row
   pub has-row : rowFor (book .rows) code ≡ gives row
-  pub too-large : TooLarge 4 tag (row .handles) h n
+  pub too-large : TooLarge (book .longest) 4 tag (row .handles) h n
 
 module _ (book : Rulebook) (tag code : ℕ) (h : Handed) (room n : ℕ) where
   command-is-too-large : writeCommand book tag code h room ≡ refuses (7 ∷ 0 ∷ n ∷ []) → CommandTooLarge book tag code h n
@@ -139,14 +138,14 @@ module _ (book : Rulebook) (tag code : ℕ) (h : Handed) (room n : ℕ) where
       let few = passed (leb (h .sessions .count) 3) _ _ (λ q. omega arith) (agree .1) in
       elim (then-refuses (rowFor (book .rows) code) _ (few .1)) [
         | inr none ↦ let four = row-number (book .rows) code none in absurd (omega arith)
-        | inl found ↦ elim (then-refuses (judged 4 tag (found .0 .handles) h room) _ (found .2)) [
+        | inl found ↦ elim (then-refuses (judged (book .longest) 4 tag (found .0 .handles) h room) _ (found .2)) [
           | inl p ↦ absurd (gives≢refuses (p .2))
           | inr large ↦ record {
             tag-is = tag-same tag (h .sessions .count) (two .0) (agree .0);
             few = leb-true (h .sessions .count) 3 (few .0);
             row = found .0;
             has-row = found .1;
-            too-large = judged-too-large 4 tag (found .0 .handles) h room n large;
+            too-large = judged-too-large (book .longest) 4 tag (found .0 .handles) h room n large;
           }
         ]
       ]
@@ -156,7 +155,7 @@ module _ (book : Rulebook) (tag code : ℕ) (h : Handed) (room n : ℕ) where
     command-is-too-large,
     (λ t.
         sym (row-found book tag code h room (t .tag-is) (t .few) (sym (t .has-row)))
-        ∙ sym (stops (judged 4 tag (t .row .handles) h room) _ (sym (too-large-judged 4 tag (t .row .handles) h room n (t .too-large))))),
+        ∙ sym (stops (judged (book .longest) 4 tag (t .row .handles) h room) _ (sym (too-large-judged (book .longest) 4 tag (t .row .handles) h room n (t .too-large))))),
   )
 
 -- ---- responses: only success has a total
@@ -167,7 +166,7 @@ pub record ResponseTooLarge (book : Rulebook) (asked : Bool) (cc code : ℕ) (h 
   pub has-row : rowFor (book .rows) cc ≡ gives row
   pub not-asked : asked ≡ false
   pub success : code ≡ 0
-  pub too-large : TooLarge 0 (tagFor (h .sessions .count)) (row .responses) h n
+  pub too-large : TooLarge (book .longest) 0 (tagFor (h .sessions .count)) (row .responses) h n
 
 module _ (code count room n : ℕ) where
   bare-no-total : (asked : Bool) → writeBare asked code room ≡ refuses (7 ∷ 0 ∷ n ∷ []) → ⊥
@@ -197,9 +196,9 @@ module _ (book : Rulebook) (asked : Bool) (cc code : ℕ) (h : Handed) (room n :
             let reads = passed (given (readCode code) || (asked && eqb code badTag)) _ _ (λ q. omega arith) (found .2) in
             elim (cond-refuses asked (writeBadTag code (h .sessions .count) room) _ (reads .1)) [
               | inl is ↦ absurd (bad-tag-no-total code (h .sessions .count) room n (is .1))
-              | inr not ↦ elim (cond-refuses (eqb code 0) (writeSuccess (found .0 .responses) h room) (writeError code (h .sessions .count) room) (not .1)) [
+              | inr not ↦ elim (cond-refuses (eqb code 0) (writeSuccess book (found .0 .responses) h room) (writeError code (h .sessions .count) room) (not .1)) [
                 | inr error ↦ absurd (error-no-total code (h .sessions .count) room n (error .1))
-                | inl success ↦ elim (then-refuses (judged 0 (tagFor (h .sessions .count)) (found .0 .responses) h room) _ (success .1)) [
+                | inl success ↦ elim (then-refuses (judged (book .longest) 0 (tagFor (h .sessions .count)) (found .0 .responses) h room) _ (success .1)) [
                   | inl p ↦ absurd (gives≢refuses (p .2))
                   | inr large ↦ record {
                     few = leb-true (h .sessions .count) 3 (few .0);
@@ -207,7 +206,7 @@ module _ (book : Rulebook) (asked : Bool) (cc code : ℕ) (h : Handed) (room n :
                     has-row = found .1;
                     not-asked = not .0;
                     success = eqb-true code 0 (success .0);
-                    too-large = judged-too-large 0 (tagFor (h .sessions .count)) (found .0 .responses) h room n large;
+                    too-large = judged-too-large (book .longest) 0 (tagFor (h .sessions .count)) (found .0 .responses) h room n large;
                   }
                 ]
               ]
@@ -221,5 +220,5 @@ module _ (book : Rulebook) (asked : Bool) (cc code : ℕ) (h : Handed) (room n :
     (λ t.
         let tag = tagFor (h .sessions .count) in
         sym (success-is book asked cc code h room (t .few) (sym (t .has-row)) (t .not-asked) (t .success))
-        ∙ sym (stops (judged 0 tag (t .row .responses) h room) _ (sym (too-large-judged 0 tag (t .row .responses) h room n (t .too-large))))),
+        ∙ sym (stops (judged (book .longest) 0 tag (t .row .responses) h room) _ (sym (too-large-judged (book .longest) 0 tag (t .row .responses) h room n (t .too-large))))),
   )

@@ -40,6 +40,9 @@ use Rattle.frame.proofs.Worked.{
   cutEntry,
 }
 use Rattle.marshal.specs.Handed.{Handed, handed}
+use Rattle.frame.specs.Rules.{bookOf}
+use Rattle.frame.specs.declared.rules.Reading.{Reading}
+use Rattle.frame.specs.declared.rules.Reading.the-variants as reading
 use Rattle.marshal.specs.Mode.{asked, bookFor}
 use Rattle.marshal.specs.declared.mode.Mode.{Mode}
 use Rattle.marshal.specs.declared.mode.Mode.the-variants as mode
@@ -56,7 +59,7 @@ pub data Call : Type 0 where
   reads : Asked → Call
   again-command : List ℕ → ℕ → Call
   again-response : ℕ → List ℕ → ℕ → Call
-  write-command : ℕ → ℕ → Handed → ℕ → Call
+  write-command : Reading → ℕ → ℕ → Handed → ℕ → Call
   write-response : Mode → ℕ → ℕ → Handed → ℕ → Call
   again-standard : ℕ → List ℕ → ℕ → Call
 
@@ -76,7 +79,7 @@ answer (again-command s room) =
 answer (again-response cc s room) =
     then (responseByValue s (readResponse rust cc s)) λ r.
     in-mode mode.Rust cc (r .rc .0) (responseHanded s r) room
-answer (write-command tag code h room) = writeCommand rust tag code h room
+answer (write-command r tag code h room) = writeCommand (bookOf (record { reading = r })) tag code h room
 answer (write-response m cc code h room) = in-mode m cc code h room
 -- in the standard mode, with the tag of the answer to a bad tag asked for where it was read
 answer (again-standard cc s room) =
@@ -156,6 +159,16 @@ past = session 6 1 9 2
 abbrev pub half : Session
 half = session 3 2 4 3
 
+-- both above 64 bytes and past the end; the HMAC is, and of the nonce nothing or its end
+abbrev pub long : Session
+long = session 6 65 9 66
+
+abbrev pub longHmac : Session
+longHmac = session 0 2 9 66
+
+abbrev pub pastAndLong : Session
+pastAndLong = session 6 64 9 66
+
 abbrev pub given : List ℕ → ℕ → Session → Session → Session → Handed
 given handles count first second third =
     handed handles (record { count = count; first = first; second = second; third = third }) (1 ∷ 2 ∷ 3 ∷ 4 ∷ 5 ∷ []) []
@@ -169,18 +182,25 @@ plainBytes = 0x80 ∷ 1 ∷ 0 ∷ 0 ∷ 0 ∷ 0x0a ∷ 0 ∷ 0 ∷ 0 ∷ 0x1e �
 
 abbrev pub refusals : List Row
 refusals =
-    row (write-command 0xc4 0 (given [] 4 past past past) 0) (refuses (3 ∷ 0 ∷ 0xc4 ∷ []))
-    ∷ row (write-command 0x8001 0 (given [] 4 past past past) 0) (refuses (3 ∷ 0 ∷ 0x8001 ∷ []))
-    ∷ row (write-command 0x8002 0 (given [] 0 past past past) 0) (refuses (3 ∷ 0 ∷ 0x8002 ∷ []))
-    ∷ row (write-command 0x8002 0 (given [] 4 past past past) 0) (refuses (6 ∷ 0 ∷ 3 ∷ 4 ∷ []))
-    ∷ row (write-command 0x8002 0 (given [] 3 past past past) 0) (refuses (4 ∷ 0 ∷ 0 ∷ []))
-    ∷ row (write-command 0x8002 0x15e (given [] 3 past past past) 0) (refuses (1 ∷ 0 ∷ 4 ∷ 0 ∷ []))
-    ∷ row (write-command 0x8002 0x15e (given (0 ∷ handle) 3 past past past) 0) (refuses (2 ∷ 4 ∷ 1 ∷ []))
-    ∷ row (write-command 0x8002 0x15e (given handle 3 past half half) 0) (refuses (1 ∷ 6 ∷ 1 ∷ 0 ∷ []))
-    ∷ row (write-command 0x8002 0x15e (given handle 3 half past past) 0) (refuses (1 ∷ 4 ∷ 3 ∷ 1 ∷ []))
-    ∷ row (write-command 0x8002 0x15e (given handle 3 whole past half) 0) (refuses (1 ∷ 6 ∷ 1 ∷ 0 ∷ []))
-    ∷ row (write-command 0x8002 0x15e (given handle 3 whole whole half) 0) (refuses (1 ∷ 4 ∷ 3 ∷ 1 ∷ []))
-    ∷ row (write-command 0x8002 0x15e (given handle 2 whole whole half) 45) (refuses (9 ∷ 0 ∷ 46 ∷ 45 ∷ []))
+    row (write-command reading.Rust 0xc4 0 (given [] 4 past past past) 0) (refuses (3 ∷ 0 ∷ 0xc4 ∷ []))
+    ∷ row (write-command reading.Rust 0x8001 0 (given [] 4 past past past) 0) (refuses (3 ∷ 0 ∷ 0x8001 ∷ []))
+    ∷ row (write-command reading.Rust 0x8002 0 (given [] 0 past past past) 0) (refuses (3 ∷ 0 ∷ 0x8002 ∷ []))
+    ∷ row (write-command reading.Rust 0x8002 0 (given [] 4 past past past) 0) (refuses (6 ∷ 0 ∷ 3 ∷ 4 ∷ []))
+    ∷ row (write-command reading.Rust 0x8002 0 (given [] 3 past past past) 0) (refuses (4 ∷ 0 ∷ 0 ∷ []))
+    ∷ row (write-command reading.Rust 0x8002 0x15e (given [] 3 past past past) 0) (refuses (1 ∷ 0 ∷ 4 ∷ 0 ∷ []))
+    ∷ row (write-command reading.Rust 0x8002 0x15e (given (0 ∷ handle) 3 past past past) 0) (refuses (2 ∷ 4 ∷ 1 ∷ []))
+    ∷ row (write-command reading.Rust 0x8002 0x15e (given handle 3 past half half) 0) (refuses (1 ∷ 6 ∷ 1 ∷ 0 ∷ []))
+    ∷ row (write-command reading.Rust 0x8002 0x15e (given handle 3 half past past) 0) (refuses (1 ∷ 4 ∷ 3 ∷ 1 ∷ []))
+    ∷ row (write-command reading.Rust 0x8002 0x15e (given handle 3 whole past half) 0) (refuses (1 ∷ 6 ∷ 1 ∷ 0 ∷ []))
+    ∷ row (write-command reading.Rust 0x8002 0x15e (given handle 3 whole whole half) 0) (refuses (1 ∷ 4 ∷ 3 ∷ 1 ∷ []))
+    ∷ row (write-command reading.Rust 0x8002 0x15e (given handle 2 whole whole half) 45) (refuses (9 ∷ 0 ∷ 46 ∷ 45 ∷ []))
+    ∷ row (write-command reading.Rust 0x8002 0x15e (given handle 3 long half half) 0) (refuses (1 ∷ 6 ∷ 65 ∷ 0 ∷ []))
+    ∷ row (write-command reading.Standard 0x8002 0x15e (given [] 3 long long long) 0) (refuses (1 ∷ 0 ∷ 4 ∷ 0 ∷ []))
+    ∷ row (write-command reading.Standard 0x8002 0x15e (given handle 3 long half half) 0) (refuses (8 ∷ 0 ∷ 64 ∷ 65 ∷ []))
+    ∷ row (write-command reading.Standard 0x8002 0x15e (given handle 3 pastAndLong long long) 0) (refuses (1 ∷ 6 ∷ 64 ∷ 0 ∷ []))
+    ∷ row (write-command reading.Standard 0x8002 0x15e (given handle 3 longHmac long past) 0) (refuses (8 ∷ 0 ∷ 64 ∷ 66 ∷ []))
+    ∷ row (write-command reading.Standard 0x8002 0x15e (given handle 3 whole long past) 0) (refuses (8 ∷ 0 ∷ 64 ∷ 65 ∷ []))
+    ∷ row (write-command reading.Standard 0x8002 0x15e (given handle 2 whole whole long) 45) (refuses (9 ∷ 0 ∷ 46 ∷ 45 ∷ []))
     ∷ row (write-response mode.Rust 0 0xc4 (given [] 4 past past past) 0) (refuses (6 ∷ 0 ∷ 3 ∷ 4 ∷ []))
     ∷ row (write-response mode.Rust 0 0xc4 (given [] 3 past past past) 0) (refuses (4 ∷ 0 ∷ 0 ∷ []))
     ∷ row (write-response mode.Rust 0x131 0xc4 (given [] 3 past past past) 0) (refuses (5 ∷ 0 ∷ 0xc4 ∷ []))
@@ -190,6 +210,10 @@ refusals =
     ∷ row (write-response mode.Rust 0x131 0 (given (0 ∷ handle) 3 past past past) 0) (refuses (2 ∷ 4 ∷ 1 ∷ []))
     ∷ row (write-response mode.Rust 0x131 0 (given handle 3 half past past) 0) (refuses (1 ∷ 4 ∷ 3 ∷ 1 ∷ []))
     ∷ row (write-response mode.Rust 0x131 0 (given handle 2 whole whole half) 37) (refuses (9 ∷ 0 ∷ 38 ∷ 37 ∷ []))
+    ∷ row (write-response mode.Rust 0x131 0 (given handle 3 long past past) 0) (refuses (1 ∷ 6 ∷ 65 ∷ 0 ∷ []))
+    ∷ row (write-response mode.Standard 0x131 0 (given handle 3 long past past) 0) (refuses (8 ∷ 0 ∷ 64 ∷ 65 ∷ []))
+    ∷ row (write-response mode.Standard 0x131 0 (given handle 3 pastAndLong long long) 0) (refuses (1 ∷ 6 ∷ 64 ∷ 0 ∷ []))
+    ∷ row (write-response mode.Standard 0x131 0 (given handle 3 longHmac long past) 0) (refuses (8 ∷ 0 ∷ 64 ∷ 66 ∷ []))
     ∷ row (write-response mode.BadTag 0 0x31 (given [] 4 past past past) 0) (refuses (6 ∷ 0 ∷ 3 ∷ 4 ∷ []))
     ∷ row (write-response mode.BadTag 0 0x31 (given [] 3 past past past) 0) (refuses (4 ∷ 0 ∷ 0 ∷ []))
     ∷ row (write-response mode.BadTag 0x131 0x31 (given [] 3 past past past) 0) (refuses (5 ∷ 0 ∷ 0x31 ∷ []))

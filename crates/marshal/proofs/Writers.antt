@@ -20,10 +20,11 @@ use Rattle.frame.specs.Header.{plain, sessions, rspCommand, badTag, isOfTwo}
 use Rattle.frame.specs.Layout.{layoutCommand, layoutResponse}
 use Rattle.frame.proofs.FrameLaws.{of-the-two, length-frame}
 use Rattle.frame.specs.Parts.{entriesOf}
-use Rattle.frame.specs.Rules.{Rulebook}
+use Rattle.frame.specs.Rules.{Rulebook, unlimited}
 use Rattle.marshal.specs.Handed.{Handed, tagFor, commandFrame, successFrame, errorFrame}
 use Rattle.marshal.specs.Write.{sessionsThere, totalSize, fitted, judged, writeCommand, writeSuccess, writeBare, writeError, writeBadTag, writeResponse, counted, roomAfter, Ready}
 use Rattle.base.specs.Field.{laid}
+use Rattle.marshal.proofs.Lengths.{there-looser}
 use Rattle.marshal.proofs.Frames.{length-command, length-success}
 use Rattle.marshal.proofs.Rooms.{laid-start}
 
@@ -60,20 +61,20 @@ module _ (tag count : ℕ) where
 
 -- ---- what was judged behind the handles
 
-module _ (width tag handles : ℕ) (h : Handed) (room : ℕ) where
+module _ (limit width tag handles : ℕ) (h : Handed) (room : ℕ) where
   pub record Fits (total : ℕ) : Type 0 where
     pub handle-count : length (h .handles) ≡ 4 * handles
-    pub there : sessionsThere (length (h .lent)) (entriesOf (h .sessions)) ≡ gives tt
+    pub there : sessionsThere limit (length (h .lent)) (entriesOf (h .sessions)) ≡ gives tt
     pub total-is : total ≡ totalSize width tag h
     pub small : total ≤ 4294967295
     pub room-for : total ≤ room
 
-  pub judged-fits : {total : ℕ} → judged width tag handles h room ≡ gives total → Fits total
+  pub judged-fits : {total : ℕ} → judged limit width tag handles h room ≡ gives total → Fits total
   unfolding judged
   judged-fits e =
       let few = needs-gives (leb (4 * handles) (length (h .handles))) _ _ e in
       let many = needs-gives (leb (length (h .handles)) (4 * handles)) _ _ (few .1) in
-      let there = then-gives (sessionsThere (length (h .lent)) (entriesOf (h .sessions))) _ (many .1) in
+      let there = then-gives (sessionsThere limit (length (h .lent)) (entriesOf (h .sessions))) _ (many .1) in
       let small = needs-gives (leb (totalSize width tag h) 4294967295) _ _ (there .2) in
       let room-for = needs-gives (leb (totalSize width tag h) room) _ _ (small .1) in
       let is = gives-injective (room-for .1) in
@@ -87,7 +88,7 @@ module _ (width tag handles : ℕ) (h : Handed) (room : ℕ) where
         room-for = rw (← is) (leb-true (totalSize width tag h) room (room-for .0));
       }
 
-  pub fits-judged : {total : ℕ} → Fits total → judged width tag handles h room ≡ gives total
+  pub fits-judged : {total : ℕ} → Fits total → judged limit width tag handles h room ≡ gives total
   unfolding judged
   fits-judged f =
       let count = f .handle-count in
@@ -143,7 +144,7 @@ module _ (book : Rulebook) (tag code : ℕ) (h : Handed) (room : ℕ) where
     behindTag =
         needs (leb (h .sessions .count) 3) (6 ∷ 0 ∷ 3 ∷ h .sessions .count ∷ [])
         (then (rowFor (book .rows) code) λ row.
-        then (judged 4 tag (row .handles) h room) λ total.
+        then (judged (book .longest) 4 tag (row .handles) h room) λ total.
         gives (layoutCommand (commandFrame tag code h)))
 
     tag-passes : behindTag ≡ writeCommand book tag code h room
@@ -156,7 +157,7 @@ module _ (book : Rulebook) (tag code : ℕ) (h : Handed) (room : ℕ) where
     many-sessions many = fails (leb (h .sessions .count) 3) _ _ (lt-leb (h .sessions .count) 3 many) ∙ tag-passes
 
     module _ (few : h .sessions .count ≤ 3) where
-      few-passes : (then (rowFor (book .rows) code) λ row. then (judged 4 tag (row .handles) h room) λ total. gives (layoutCommand (commandFrame tag code h)))
+      few-passes : (then (rowFor (book .rows) code) λ row. then (judged (book .longest) 4 tag (row .handles) h room) λ total. gives (layoutCommand (commandFrame tag code h)))
           ≡ writeCommand book tag code h room
       few-passes = passes (leb (h .sessions .count) 3) _ _ (le-leb (h .sessions .count) 3 few) ∙ tag-passes
 
@@ -164,13 +165,13 @@ module _ (book : Rulebook) (tag code : ℕ) (h : Handed) (room : ℕ) where
       no-row e = stops (rowFor (book .rows) code) _ e ∙ few-passes
 
       pub row-found : {row : Row} → gives row ≡ rowFor (book .rows) code
-          → (then (judged 4 tag (row .handles) h room) λ total. gives (layoutCommand (commandFrame tag code h))) ≡ writeCommand book tag code h room
+          → (then (judged (book .longest) 4 tag (row .handles) h room) λ total. gives (layoutCommand (commandFrame tag code h))) ≡ writeCommand book tag code h room
       row-found e = goes-on (rowFor (book .rows) code) _ e ∙ few-passes
 
-      pub command-judged : {row : Row} → gives row ≡ rowFor (book .rows) code → judged 4 tag (row .handles) h room ≡ counted (writeCommand book tag code h room)
+      pub command-judged : {row : Row} → gives row ≡ rowFor (book .rows) code → judged (book .longest) 4 tag (row .handles) h room ≡ counted (writeCommand book tag code h room)
       command-judged {row} e =
-          judged-counted (judged 4 tag (row .handles) h room) (layoutCommand (commandFrame tag code h))
-          (λ total j. let f = judged-fits 4 tag (row .handles) h room j in length-command h (f .there) tag code ∙ sym (f .total-is))
+          judged-counted (judged (book .longest) 4 tag (row .handles) h room) (layoutCommand (commandFrame tag code h))
+          (λ total j. let f = judged-fits (book .longest) 4 tag (row .handles) h room j in length-command (book .longest) h (f .there) tag code ∙ sym (f .total-is))
           ∙ ap counted (row-found e)
 
   -- what a command that is written has passed
@@ -179,7 +180,7 @@ module _ (book : Rulebook) (tag code : ℕ) (h : Handed) (room : ℕ) where
     pub few : h .sessions .count ≤ 3
     pub row : Row
     pub has-row : rowFor (book .rows) code ≡ gives row
-    pub fits : Fits 4 tag (row .handles) h room (length t)
+    pub fits : Fits (book .longest) 4 tag (row .handles) h room (length t)
     pub layout-is : t ≡ layoutCommand (commandFrame tag code h)
 
   pub command-passed : {t : List ℕ} → writeCommand book tag code h room ≡ gives t → CommandPassed t
@@ -189,32 +190,32 @@ module _ (book : Rulebook) (tag code : ℕ) (h : Handed) (room : ℕ) where
       let agree = needs-gives (Bool·beq (eqb tag sessions) (ltb 0 (h .sessions .count))) _ _ (two .1) in
       let few = needs-gives (leb (h .sessions .count) 3) _ _ (agree .1) in
       let found = then-gives (rowFor (book .rows) code) _ (few .1) in
-      let judged-is = then-gives (judged 4 tag (found .0 .handles) h room) _ (found .2) in
-      let fits = judged-fits 4 tag (found .0 .handles) h room (judged-is .1) in
+      let judged-is = then-gives (judged (book .longest) 4 tag (found .0 .handles) h room) _ (found .2) in
+      let fits = judged-fits (book .longest) 4 tag (found .0 .handles) h room (judged-is .1) in
       let is : t ≡ layoutCommand (commandFrame tag code h) = sym (gives-injective (judged-is .2)) in
-      let long : judged-is .0 ≡ length t = fits .total-is ∙ sym (length-command h (fits .there) tag code) ∙ ap length (sym is) in
+      let long : judged-is .0 ≡ length t = fits .total-is ∙ sym (length-command (book .longest) h (fits .there) tag code) ∙ ap length (sym is) in
       record {
         tag-is = tag-same tag (h .sessions .count) (two .0) (agree .0);
         few = leb-true (h .sessions .count) 3 (few .0);
         row = found .0;
         has-row = found .1;
-        fits = subst (Fits 4 tag (found .0 .handles) h room) long fits;
+        fits = subst (Fits (book .longest) 4 tag (found .0 .handles) h room) long fits;
         layout-is = is;
       }
 
   pub passed-command : {t : List ℕ} → CommandPassed t → writeCommand book tag code h room ≡ gives t
   passed-command p =
       sym (row-found (p .tag-is) (p .few) (sym (p .has-row)))
-      ∙ sym (goes-on (judged 4 tag (p .row .handles) h room) _ (sym (fits-judged 4 tag (p .row .handles) h room (p .fits))))
+      ∙ sym (goes-on (judged (book .longest) 4 tag (p .row .handles) h room) _ (sym (fits-judged (book .longest) 4 tag (p .row .handles) h room (p .fits))))
       ∙ ap gives (sym (p .layout-is))
 
-  pub command-ready : {total : ℕ} → gives total ≡ counted (writeCommand book tag code h room)
+  pub command-ready : book .longest ≤ unlimited → {total : ℕ} → gives total ≡ counted (writeCommand book tag code h room)
       → Ready 4 tag h total room × (writeCommand book tag code h room ≡ gives (layoutCommand (commandFrame tag code h)))
-  command-ready {total} e =
+  command-ready below {total} e =
       let given = counted-gives (writeCommand book tag code h room) e in
       let p = command-passed (given .1) in
-      let f : Fits 4 tag (p .row .handles) h room total = subst (Fits 4 tag (p .row .handles) h room) (given .2) (p .fits) in (
-        record { tag-is = p .tag-is; there = f .there; total-is = f .total-is; small = f .small; room-for = f .room-for },
+      let f : Fits (book .longest) 4 tag (p .row .handles) h room total = subst (Fits (book .longest) 4 tag (p .row .handles) h room) (given .2) (p .fits) in (
+        record { tag-is = p .tag-is; there = there-looser (book .longest) unlimited _ _ below (f .there); total-is = f .total-is; small = f .small; room-for = f .room-for },
         given .1 ∙ ap gives (p .layout-is),
       )
 
@@ -316,11 +317,11 @@ module _ (code count room : ℕ) where
       (is, eqb-true count 0 none, bare .0, bare .1)
 
   -- what comes behind the row, of a response of so many response handles
-  module _ (responses : ℕ) (h : Handed) where
+  module _ (book : Rulebook) (responses : ℕ) (h : Handed) where
     abbrev behindRow : Bool → Said (List ℕ)
     behindRow asked =
         needs (given (readCode code) || (asked && eqb code badTag)) (5 ∷ 0 ∷ code ∷ [])
-        (cond asked (writeBadTag code count room) (cond (eqb code 0) (writeSuccess responses h room) (writeError code count room)))
+        (cond asked (writeBadTag code count room) (cond (eqb code 0) (writeSuccess book responses h room) (writeError code count room)))
 
     behind-error : (asked : Bool) → Errs asked code → count ≡ 0 → 10 ≤ room → behindRow asked ≡ gives (layoutResponse (errorFrame asked code))
     unfolding writeError
@@ -330,12 +331,12 @@ module _ (code count room : ℕ) where
     behind-error false e none fits = rw (e .0, e .1, eq-eqb count 0 none) (passed-bare false code room fits)
 
     behind-kinds : (asked : Bool) {t : List ℕ} → behindRow asked ≡ gives t
-        → ((asked ≡ false) × (code ≡ 0) × (writeSuccess responses h room ≡ gives t))
+        → ((asked ≡ false) × (code ≡ 0) × (writeSuccess book responses h room ≡ gives t))
         ⊎ (Errs asked code × (count ≡ 0) × (t ≡ layoutResponse (errorFrame asked code)) × (10 ≤ room))
     behind-kinds true e = inr (bad-tag-passed (needs-gives (given (readCode code) || eqb code badTag) _ (writeBadTag code count room) e .1))
     behind-kinds false e =
         let reads = needs-gives (given (readCode code) || false) _ _ e in
-        elim (cond-gives (eqb code 0) (writeSuccess responses h room) (writeError code count room) (reads .1)) [
+        elim (cond-gives (eqb code 0) (writeSuccess book responses h room) (writeError code count room) (reads .1)) [
           | inl success ↦ inl (refl, eqb-true code 0 (success .0), success .1)
           | inr error ↦
               let p = error-passed (error .1) in
@@ -356,21 +357,21 @@ module _ (book : Rulebook) (asked : Bool) (cc code : ℕ) (h : Handed) (room : �
     no-command e = stops (rowFor (book .rows) cc) _ e ∙ passes (leb (h .sessions .count) 3) _ _ (le-leb (h .sessions .count) 3 few)
 
     module _ {row : Row} (e : gives row ≡ rowFor (book .rows) cc) where
-      row-passes : behindRow code (h .sessions .count) room (row .responses) h asked ≡ writes
+      row-passes : behindRow code (h .sessions .count) room book (row .responses) h asked ≡ writes
       unfolding writeResponse
       row-passes = goes-on (rowFor (book .rows) cc) _ e ∙ passes (leb (h .sessions .count) 3) _ _ (le-leb (h .sessions .count) 3 few)
 
-      pub success-is : asked ≡ false → code ≡ 0 → writeSuccess (row .responses) h room ≡ writes
+      pub success-is : asked ≡ false → code ≡ 0 → writeSuccess book (row .responses) h room ≡ writes
       success-is not zero = sym (rw (not, zero, success-reads) refl) ∙ row-passes
 
       pub error-is : Errs asked code → h .sessions .count ≡ 0 → 10 ≤ room → writes ≡ gives (layoutResponse (errorFrame asked code))
-      error-is errs none fits = sym row-passes ∙ behind-error code (h .sessions .count) room (row .responses) h asked errs none fits
+      error-is errs none fits = sym row-passes ∙ behind-error code (h .sessions .count) room book (row .responses) h asked errs none fits
 
-      pub success-judged : asked ≡ false → code ≡ 0 → judged 0 (tagFor (h .sessions .count)) (row .responses) h room ≡ counted writes
+      pub success-judged : asked ≡ false → code ≡ 0 → judged (book .longest) 0 (tagFor (h .sessions .count)) (row .responses) h room ≡ counted writes
       unfolding writeSuccess
       success-judged not zero =
-          judged-counted (judged 0 (tagFor (h .sessions .count)) (row .responses) h room) (layoutResponse (successFrame h))
-          (λ total j. let f = judged-fits 0 (tagFor (h .sessions .count)) (row .responses) h room j in length-success h (f .there) ∙ sym (f .total-is))
+          judged-counted (judged (book .longest) 0 (tagFor (h .sessions .count)) (row .responses) h room) (layoutResponse (successFrame h))
+          (λ total j. let f = judged-fits (book .longest) 0 (tagFor (h .sessions .count)) (row .responses) h room j in length-success (book .longest) h (f .there) ∙ sym (f .total-is))
           ∙ ap counted (success-is not zero)
 
       pub error-judged : asked ≡ false → (code ≡ 0 → ⊥)
@@ -392,25 +393,25 @@ module _ (book : Rulebook) (asked : Bool) (cc code : ℕ) (h : Handed) (room : �
     pub few : h .sessions .count ≤ 3
     pub row : Row
     pub has-row : rowFor (book .rows) cc ≡ gives row
-    pub either-kind : ((asked ≡ false) × (code ≡ 0) × (Fits 0 (tagFor (h .sessions .count)) (row .responses) h room (length t)) × (t ≡ layoutResponse (successFrame h)))
+    pub either-kind : ((asked ≡ false) × (code ≡ 0) × (Fits (book .longest) 0 (tagFor (h .sessions .count)) (row .responses) h room (length t)) × (t ≡ layoutResponse (successFrame h)))
         ⊎ (Errs asked code × (h .sessions .count ≡ 0) × (t ≡ layoutResponse (errorFrame asked code)) × (10 ≤ room))
 
-  pub success-passed : (responses : ℕ) {t : List ℕ} → writeSuccess responses h room ≡ gives t
-      → Fits 0 (tagFor (h .sessions .count)) responses h room (length t) × (t ≡ layoutResponse (successFrame h))
+  pub success-passed : (responses : ℕ) {t : List ℕ} → writeSuccess book responses h room ≡ gives t
+      → Fits (book .longest) 0 (tagFor (h .sessions .count)) responses h room (length t) × (t ≡ layoutResponse (successFrame h))
   unfolding writeSuccess
   success-passed responses {t} e =
       let tag = tagFor (h .sessions .count) in
-      let judged-is = then-gives (judged 0 tag responses h room) _ e in
-      let fits = judged-fits 0 tag responses h room (judged-is .1) in
+      let judged-is = then-gives (judged (book .longest) 0 tag responses h room) _ e in
+      let fits = judged-fits (book .longest) 0 tag responses h room (judged-is .1) in
       let is : t ≡ layoutResponse (successFrame h) = sym (gives-injective (judged-is .2)) in
-      let long : judged-is .0 ≡ length t = fits .total-is ∙ sym (length-success h (fits .there)) ∙ ap length (sym is) in
-      (subst (Fits 0 tag responses h room) long fits, is)
+      let long : judged-is .0 ≡ length t = fits .total-is ∙ sym (length-success (book .longest) h (fits .there)) ∙ ap length (sym is) in
+      (subst (Fits (book .longest) 0 tag responses h room) long fits, is)
 
-  pub passed-success : (responses : ℕ) {n : ℕ} → Fits 0 (tagFor (h .sessions .count)) responses h room n
-      → writeSuccess responses h room ≡ gives (layoutResponse (successFrame h))
+  pub passed-success : (responses : ℕ) {n : ℕ} → Fits (book .longest) 0 (tagFor (h .sessions .count)) responses h room n
+      → writeSuccess book responses h room ≡ gives (layoutResponse (successFrame h))
   unfolding writeSuccess
   passed-success responses fits =
-      sym (goes-on (judged 0 (tagFor (h .sessions .count)) responses h room) _ (sym (fits-judged 0 (tagFor (h .sessions .count)) responses h room fits)))
+      sym (goes-on (judged (book .longest) 0 (tagFor (h .sessions .count)) responses h room) _ (sym (fits-judged (book .longest) 0 (tagFor (h .sessions .count)) responses h room fits)))
 
   pub response-passed : {t : List ℕ} → writes ≡ gives t → ResponsePassed t
   unfolding writeResponse
@@ -420,22 +421,22 @@ module _ (book : Rulebook) (asked : Bool) (cc code : ℕ) (h : Handed) (room : �
         few = leb-true (h .sessions .count) 3 (few .0);
         row = found .0;
         has-row = found .1;
-        either-kind = elim (behind-kinds code (h .sessions .count) room (found .0 .responses) h asked (found .2)) [
+        either-kind = elim (behind-kinds code (h .sessions .count) room book (found .0 .responses) h asked (found .2)) [
           | inl success ↦ let p = success-passed (found .0 .responses) (success .2) in inl (success .0, success .1, p .0, p .1)
           | inr error ↦ inr error
         ];
       }
 
-  pub success-ready : code ≡ 0 → {total : ℕ} → gives total ≡ counted writes
+  pub success-ready : book .longest ≤ unlimited → code ≡ 0 → {total : ℕ} → gives total ≡ counted writes
       → Ready 0 (tagFor (h .sessions .count)) h total room × (writes ≡ gives (layoutResponse (successFrame h)))
-  success-ready zero {total} e =
+  success-ready below zero {total} e =
       let said = counted-gives writes e in
       elim (response-passed (said .1) .either-kind) [
         | inl p ↦
             let row = response-passed (said .1) .row in
             let tag = tagFor (h .sessions .count) in
-            let f : Fits 0 tag (row .responses) h room total = subst (Fits 0 tag (row .responses) h room) (said .2) (p .2) in (
-              record { tag-is = refl; there = f .there; total-is = f .total-is; small = f .small; room-for = f .room-for },
+            let f : Fits (book .longest) 0 tag (row .responses) h room total = subst (Fits (book .longest) 0 tag (row .responses) h room) (said .2) (p .2) in (
+              record { tag-is = refl; there = there-looser (book .longest) unlimited _ _ below (f .there); total-is = f .total-is; small = f .small; room-for = f .room-for },
               said .1 ∙ ap gives (p .3),
             )
         | inr p ↦ absurd (no-success asked (p .0))

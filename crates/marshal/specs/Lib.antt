@@ -1,4 +1,5 @@
 pub mod Handed
 pub mod Laid
+pub mod Looked
 pub mod Mode
 pub mod Write

@@ -4,6 +4,7 @@
 use mathlib.Core.Bool.{Bool, true, false}
 use Rattle.frame.specs.declared.rules.Reading.{Reading}
 use Rattle.frame.specs.declared.rules.Reading.the-variants as reading
+use Rattle.frame.specs.declared.rules.Rules.{Rules}
 use Rattle.frame.specs.Rules.{Rulebook, bookOf}
 use Rattle.marshal.specs.declared.mode.Mode.{Mode}
 use Rattle.marshal.specs.declared.mode.Mode.the-variants as mode
@@ -15,8 +16,11 @@ readingOf mode.Rust = reading.Rust
 readingOf mode.Standard = reading.Standard
 readingOf mode.BadTag = reading.Standard
 
+abbrev pub rulesFor : ResponseRules → Rules
+rulesFor rules = record { reading = readingOf (rules .mode) }
+
 abbrev pub bookFor : ResponseRules → Rulebook
-bookFor rules = bookOf (record { reading = readingOf (rules .mode) })
+bookFor rules = bookOf (rulesFor rules)
 
 -- whether the tag of the answer to a bad tag is asked for
 abbrev pub asksBadTag : Mode → Bool

@@ -12,13 +12,16 @@ use crate::put::put_entries;
 use crate::put::put_header;
 use crate::put::put_u32;
 use crate::total::entries_length;
+use crate::total::found;
 use crate::total::judge;
+use crate::total::look;
 use crate::total::tag_for;
 use crate::total::too_many;
 use base::answer::Count;
 use base::code::TpmCc;
 use base::code::TpmSt;
 use frame::rules::Rules;
+use frame::rules::longest;
 use frame::session::Entries;
 use frame::session::MAX_SESSIONS;
 use table::dispatch::find;
@@ -43,14 +46,18 @@ fn judge_command(
         }
         return match find(cc) {
             Found::Refused(e) => Count::Refused(e),
-            Found::Is(row) => judge(
-                tag.0,
-                row.handles,
-                handles.len(),
-                entries_length(true, sessions, lent.len()),
-                parameters.len(),
-                room,
-            ),
+            Found::Is(row) => {
+                let limit = longest(rules);
+                let looked = look(limit, sessions, lent.len());
+                judge(
+                    tag.0,
+                    row.handles,
+                    handles.len(),
+                    found(limit, lent.len(), looked, entries_length(true, sessions)),
+                    parameters.len(),
+                    room,
+                )
+            }
         };
     }
     Count::Refused(tag.refused(0))

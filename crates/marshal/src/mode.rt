@@ -1,7 +1,9 @@
 // How a response is written: in the Rust's mode, or in the standard one, and there with the tag of the answer to a bad tag asked
 // for or not. The Rust's mode cannot be asked for that tag.
 ghost use mathlib.Core.Path.{_≡_};
-ghost use Rattle.marshal.specs.Mode.{asked};
+ghost use Rattle.marshal.specs.Mode.{asked, readingOf, rulesFor};
+use frame::rules::Reading;
+use frame::rules::Rules;
 
 pub enum Mode {
     Rust,
@@ -21,5 +23,25 @@ pub(crate) fn asks_bad_tag(rules: ResponseRules) -> bool
         Mode::Rust => false,
         Mode::Standard => false,
         Mode::BadTag => true,
+    }
+}
+
+// The reading by which what is written in a mode is read again.
+fn reading_of(mode: Mode) -> Reading
+    ensures { λ r. ⌜ r ≡ readingOf mode ⌝ }
+{
+    match mode {
+        Mode::Rust => Reading::Rust,
+        Mode::Standard => Reading::Standard,
+        Mode::BadTag => Reading::Standard,
+    }
+}
+
+pub(crate) fn rules_for(rules: ResponseRules) -> Rules
+    ensures { λ r. ⌜ r ≡ rulesFor rules ⌝ }
+{
+    let mode = rules.mode;
+    Rules {
+        reading: reading_of(mode),
     }
 }

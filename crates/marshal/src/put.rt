@@ -10,6 +10,7 @@ ghost use Rattle.base.specs.Tpm2b.{tpm2b};
 ghost use Rattle.frame.specs.Answer.{handleWidth};
 ghost use Rattle.frame.specs.Layout.{layoutEntries, layoutEntry};
 ghost use Rattle.frame.specs.Parts.{entriesIn, entriesOf, entryIn, fieldIn};
+ghost use Rattle.frame.specs.Rules.{unlimited};
 ghost use Rattle.marshal.specs.Laid.{Puts, layoutSigned};
 ghost use Rattle.marshal.specs.Write.{fieldThere, sessionThere, sessionsThere};
 use base::field::write_bytes;
@@ -46,7 +47,7 @@ pub(crate) fn put_u32(n: u32, place: usize, room: &mut [u8]) -> usize
 
 // A nonce or an HMAC of the lent session bytes, as a TPM2B.
 fn put_tpm2b(f: Field, lent: &[u8], place: usize, room: &mut [u8]) -> usize
-    requires { ⌜ fieldThere (length (now lent)) f ≡ gives tt ⌝ }
+    requires { ⌜ fieldThere unlimited (length (now lent)) f ≡ gives tt ⌝ }
     requires { ⌜ place + length (tpm2b (fieldIn (now lent) f)) ≤ length (now room) ⌝ }
     ensures { λ r. ⌜ Puts place (tpm2b (fieldIn (now (lent .entry)) f)) (now (room .entry)) r (now (room .exit)) ⌝ }
 {
@@ -58,7 +59,7 @@ fn put_tpm2b(f: Field, lent: &[u8], place: usize, room: &mut [u8]) -> usize
 
 // What every entry has: nonce, attribute byte and HMAC.
 fn put_signed(e: Session, lent: &[u8], place: usize, room: &mut [u8]) -> usize
-    requires { ⌜ sessionThere (length (now lent)) e ≡ gives tt ⌝ }
+    requires { ⌜ sessionThere unlimited (length (now lent)) e ≡ gives tt ⌝ }
     requires { ⌜ place + length (layoutSigned (entryIn (now lent) e)) ≤ length (now room) ⌝ }
     ensures { λ r. ⌜ Puts place (layoutSigned (entryIn (now (lent .entry)) e)) (now (room .entry)) r (now (room .exit)) ⌝ }
 {
@@ -69,7 +70,7 @@ fn put_signed(e: Session, lent: &[u8], place: usize, room: &mut [u8]) -> usize
 
 // An entry, with a handle before it in a command.
 fn put_entry(command: bool, e: Session, lent: &[u8], place: usize, room: &mut [u8]) -> usize
-    requires { ⌜ sessionThere (length (now lent)) e ≡ gives tt ⌝ }
+    requires { ⌜ sessionThere unlimited (length (now lent)) e ≡ gives tt ⌝ }
     requires { ⌜ place + length (layoutEntry (handleWidth command) (entryIn (now lent) e)) ≤ length (now room) ⌝ }
     ensures { λ r. ⌜ Puts place (layoutEntry (handleWidth command) (entryIn (now (lent .entry)) e)) (now (room .entry)) r (now (room .exit)) ⌝ }
 {
@@ -88,7 +89,7 @@ pub(crate) fn put_entries(
     place: usize,
     room: &mut [u8],
 ) -> usize
-    requires { ⌜ sessionsThere (length (now lent)) (entriesOf es) ≡ gives tt ⌝ }
+    requires { ⌜ sessionsThere unlimited (length (now lent)) (entriesOf es) ≡ gives tt ⌝ }
     requires { ⌜ place + length (layoutEntries (handleWidth command) (entriesIn (now lent) (entriesOf es))) ≤ length (now room) ⌝ }
     ensures { λ r. ⌜ Puts place (layoutEntries (handleWidth command) (entriesIn (now (lent .entry)) (entriesOf es))) (now (room .entry)) r (now (room .exit)) ⌝ }
 {

@@ -15,13 +15,16 @@ ghost use Rattle.base.specs.Field.{laid};
 ghost use Rattle.marshal.specs.Write.{Ready, counted, roomAfter, writeBadTag, writeError, writeResponse};
 use crate::mode::ResponseRules;
 use crate::mode::asks_bad_tag;
+use crate::mode::rules_for;
 use crate::put::put;
 use crate::put::put_entries;
 use crate::put::put_header;
 use crate::put::put_u32;
 use crate::total::entries_length;
 use crate::total::fits;
+use crate::total::found;
 use crate::total::judge;
+use crate::total::look;
 use crate::total::tag_for;
 use crate::total::too_many;
 use base::answer::Count;
@@ -33,6 +36,7 @@ use frame::header::HEADER_SIZE;
 use frame::header::PLAIN;
 use frame::header::RSP_COMMAND;
 use frame::header::SESSIONS;
+use frame::rules::longest;
 use frame::session::Entries;
 use frame::session::MAX_SESSIONS;
 use rc::code::Answer;
@@ -113,11 +117,13 @@ fn judge_response(
                 return judge_bad_tag(rc, sessions.count, room);
             }
             if rc.0 == 0 {
+                let limit = longest(rules_for(rules));
+                let looked = look(limit, sessions, lent.len());
                 return judge(
                     tag_for(sessions.count),
                     row.responses,
                     handles.len(),
-                    entries_length(false, sessions, lent.len()),
+                    found(limit, lent.len(), looked, entries_length(false, sessions)),
                     parameters.len(),
                     room,
                 );

@@ -6,13 +6,14 @@ ghost use mathlib.Core.Bool.{cond};
 ghost use lib.Dec.{eqb, leb};
 ghost use Rattle.base.specs.Answer.{saidCount};
 ghost use Rattle.base.specs.Error.{numbered};
-ghost use Rattle.base.specs.Said.{gives, then};
+ghost use Rattle.base.specs.Said.{given, gives, then};
 ghost use lib.ListN.{length};
 ghost use Rattle.frame.specs.Answer.{handleWidth};
 ghost use Rattle.frame.specs.Header.{sessions};
 ghost use Rattle.frame.specs.Parts.{entriesOf};
 ghost use Rattle.marshal.specs.Handed.{Handed, tagFor};
-ghost use Rattle.marshal.specs.Write.{capped, entriesSaid, entryLength, fitted, judged, sessionThere};
+ghost use Rattle.marshal.specs.Looked.{saidLooked, whyNot};
+ghost use Rattle.marshal.specs.Write.{capped, entriesLength, entriesSaid, entryLength, fieldThere, fitted, judged, sessionThere, sessionsThere};
 use base::answer::Count;
 use base::error::TpmError;
 use base::field::left;
@@ -64,6 +65,12 @@ pub(crate) fn too_many(count: usize) -> TpmError
     }
 }
 
+// What was found of the sessions: all that they name, or the first nonce or HMAC that cannot be taken.
+pub(crate) enum Looked {
+    All,
+    Missing { at: usize, size: usize },
+}
+
 // Whether a nonce or an HMAC stands within so many lent bytes. A position is never added to: it may be any number.
 fn inside(f: Field, lent: usize) -> bool
     ensures { λ r. ⌜ r ≡ leb (f .at + f .size) lent ⌝ }
@@ -71,63 +78,108 @@ fn inside(f: Field, lent: usize) -> bool
     f.at <= lent && f.size as usize <= lent - f.at
 }
 
-fn missing(f: Field, lent: usize) -> TpmError
-    ensures { λ r. ⌜ numbered r ≡ 1 ∷ f .at ∷ f .size ∷ (lent - f .at) ∷ [] ⌝ }
+// Whether it is within the limit too.
+fn there(limit: usize, f: Field, lent: usize) -> bool
+    ensures { λ r. ⌜ r ≡ given (fieldThere limit lent f) ⌝ }
 {
+    f.size as usize <= limit && inside(f, lent)
+}
+
+// Why it is not: too long, or past the end.
+fn why_not(limit: usize, lent: usize, at: usize, size: usize) -> TpmError
+    ensures { λ r. ⌜ numbered r ≡ whyNot limit lent at size ⌝ }
+{
+    if limit < size {
+        return TpmError::TooManyBytes {
+            offset: 0,
+            limit,
+            actual: size,
+        };
+    }
     TpmError::UnexpectedEnd {
-        offset: f.at,
-        needed: f.size as usize,
-        available: left(lent, f.at),
+        offset: at,
+        needed: size,
+        available: left(lent, at),
     }
 }
 
-// The bytes that the entry of a session takes, whose nonce and HMAC stand within so many lent bytes.
-fn entry_length(command: bool, e: Session, lent: usize) -> Count
-    ensures { λ r. ⌜ saidCount r ≡ then (sessionThere lent e) (λ there. gives (entryLength (handleWidth command) e)) ⌝ }
+// Looks at one session, the nonce before the HMAC.
+fn look_at(limit: usize, e: Session, lent: usize) -> Looked
+    ensures { λ r. ⌜ saidLooked limit lent r ≡ sessionThere limit lent e ⌝ }
 {
-    if inside(e.nonce, lent) {
-        if inside(e.hmac, lent) {
-            let signed = 5 + e.nonce.size as usize + e.hmac.size as usize;
-            return Count::Is(if command { 4 + signed } else { signed });
+    if there(limit, e.nonce, lent) {
+        if there(limit, e.hmac, lent) {
+            return Looked::All;
         }
-        return Count::Refused(missing(e.hmac, lent));
+        return Looked::Missing {
+            at: e.hmac.at,
+            size: e.hmac.size as usize,
+        };
     }
-    Count::Refused(missing(e.nonce, lent))
+    Looked::Missing {
+        at: e.nonce.at,
+        size: e.nonce.size as usize,
+    }
 }
 
-// The bytes that the entries take. Without sessions the records are not looked at, nor copied.
-pub(crate) fn entries_length(command: bool, es: Entries, lent: usize) -> Count
-    ensures { λ r. ⌜ saidCount r ≡ entriesSaid (handleWidth command) lent (entriesOf es) ⌝ }
+// Looks at the sessions in their order, for nonces and HMACs of at most so many bytes, in so many lent bytes.
+pub(crate) fn look(limit: usize, es: Entries, lent: usize) -> Looked
+    ensures { λ r. ⌜ saidLooked limit lent r ≡ sessionsThere limit lent (entriesOf es) ⌝ }
 {
     if es.count == 0 {
-        return Count::Is(0);
+        return Looked::All;
     }
-    some_length(command, es, lent)
-}
-
-fn some_length(command: bool, es: Entries, lent: usize) -> Count
-    requires { ⌜ (es .count ≡ 0 → ⊥) ⌝ }
-    ensures { λ r. ⌜ saidCount r ≡ entriesSaid (handleWidth command) lent (entriesOf es) ⌝ }
-{
-    let first = entry_length(command, es.first, lent);
-    let Count::Is(a) = first else {
+    let first = look_at(limit, es.first, lent);
+    let Looked::All = first else {
         return first;
     };
     if es.count == 1 {
-        return first;
+        return Looked::All;
     }
-    let second = entry_length(command, es.second, lent);
-    let Count::Is(b) = second else {
+    let second = look_at(limit, es.second, lent);
+    let Looked::All = second else {
         return second;
     };
     if es.count == 2 {
-        return Count::Is(a + b);
+        return Looked::All;
     }
-    let third = entry_length(command, es.third, lent);
-    let Count::Is(c) = third else {
-        return third;
-    };
-    Count::Is(a + b + c)
+    look_at(limit, es.third, lent)
+}
+
+// The bytes that the entry of a session takes.
+fn entry_length(command: bool, e: Session) -> usize
+    ensures { λ r. ⌜ r ≡ entryLength (handleWidth command) e ⌝ }
+{
+    let signed = 5 + e.nonce.size as usize + e.hmac.size as usize;
+    if command { 4 + signed } else { signed }
+}
+
+// The bytes that the entries take.
+pub(crate) fn entries_length(command: bool, es: Entries) -> usize
+    ensures { λ r. ⌜ r ≡ entriesLength (handleWidth command) (entriesOf es) ⌝ }
+{
+    if es.count == 0 {
+        return 0;
+    }
+    if es.count == 1 {
+        return entry_length(command, es.first);
+    }
+    if es.count == 2 {
+        return entry_length(command, es.first) + entry_length(command, es.second);
+    }
+    entry_length(command, es.first)
+        + entry_length(command, es.second)
+        + entry_length(command, es.third)
+}
+
+// The bytes of the entries, where all that they name was found.
+pub(crate) fn found(limit: usize, lent: usize, looked: Looked, length: usize) -> Count
+    ensures { λ r. ⌜ saidCount r ≡ then (saidLooked limit lent looked) (λ there. gives length) ⌝ }
+{
+    match looked {
+        Looked::All => Count::Is(length),
+        Looked::Missing { at, size } => Count::Refused(why_not(limit, lent, at, size)),
+    }
 }
 
 // The total, where there is room for it.
@@ -155,7 +207,7 @@ pub(crate) fn judge(
     room: usize,
 ) -> Count
     requires { ⌜ ((n : ℕ) → saidCount entries ≡ gives n → n ≤ 393237) ⌝ }
-    ensures { λ r. ⌜ ((width : ℕ) (h : Handed) → length (h .handles) ≡ handles → saidCount entries ≡ entriesSaid width (length (h .lent)) (entriesOf (h .sessions)) → length (h .parameters) ≡ parameters → saidCount r ≡ judged width tag count h room) ⌝ }
+    ensures { λ r. ⌜ ((limit width : ℕ) (h : Handed) → length (h .handles) ≡ handles → saidCount entries ≡ entriesSaid limit width (length (h .lent)) (entriesOf (h .sessions)) → length (h .parameters) ≡ parameters → saidCount r ≡ judged limit width tag count h room) ⌝ }
 {
     let needed = 4 * (count as usize);
     if handles < needed {

@@ -4,18 +4,22 @@
 use super::*;
 use crate::calls::{Field, Parts, Session, Sessions, Span};
 
-/// The size of the TPM2B at a place of an area that ends at the end of `s`.
-fn tpm2b(s: &[u8], at: usize) -> Read<usize> {
+/// The size of the TPM2B at a place of an area that ends at the end of `s`, of at most so many bytes.
+fn tpm2b(s: &[u8], at: usize, longest: usize) -> Read<usize> {
     let left = s.len() - at;
     if left < 2 {
         return Err(ends(at, 2, left));
     }
     let size = number(s, at, 2);
+    if size > longest {
+        return Err(Refusal(8, [at, longest, size]));
+    }
     if left < 2 + size { Err(ends(at, 2 + size, left)) } else { Ok(size) }
 }
 
 /// The entries from a place to the end of `s`.
-fn walk(s: &[u8], from: usize, command: bool) -> Read<Sessions> {
+fn walk(reading: Reading, s: &[u8], from: usize, command: bool) -> Read<Sessions> {
+    let longest = reading.longest();
     let (mut sessions, mut at) = (Sessions::default(), from);
     while at < s.len() {
         if sessions.count == 3 {
@@ -29,10 +33,10 @@ fn walk(s: &[u8], from: usize, command: bool) -> Read<Sessions> {
             handle = number(s, at, 4);
             at += 4;
         }
-        let nonce = (at + 2, tpm2b(s, at)?);
+        let nonce = (at + 2, tpm2b(s, at, longest)?);
         let attributes = nonce.0 + nonce.1;
         let byte = *s.get(attributes).ok_or(ends(attributes, 1, 0))?;
-        let hmac = (attributes + 3, tpm2b(s, attributes + 1)?);
+        let hmac = (attributes + 3, tpm2b(s, attributes + 1, longest)?);
         let [nonce, hmac] = [nonce, hmac].map(|(at, size)| Field { at, size: size as u16 });
         sessions.three[sessions.count] = Session { handle: handle as u32, nonce, attributes: byte, hmac };
         sessions.count += 1;
@@ -50,7 +54,7 @@ fn parts(s: &[u8], areas: [(usize, usize); 3], sessions: Sessions) -> calls::Fra
 fn command_read(by: u32, s: &[u8]) -> Read<calls::Frame> {
     let frame = command_judged(by, s, whole)?;
     let (handles, from, to) = command_areas(frame)?;
-    let sessions = walk(&frame[..to], from, true)?;
+    let sessions = walk(reading(by)?, &frame[..to], from, true)?;
     Ok(parts(s, [(HEADER, handles), (from, to), (to, s.len())], sessions))
 }
 
@@ -67,7 +71,7 @@ fn response_read(by: u32, cc: u32, s: &[u8]) -> Read<calls::Frame> {
     }
     let handles = handles_end(s, row.responses)?;
     let (from, to) = if tag_field(s) == SESSIONS { sized(s, handles)? } else { (handles, s.len()) };
-    let sessions = walk(s, to, false)?;
+    let sessions = walk(reading(by)?, s, to, false)?;
     Ok(parts(s, [(HEADER, handles), (to, s.len()), (from, to)], sessions))
 }
 

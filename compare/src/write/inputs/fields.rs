@@ -2,7 +2,7 @@
 
 use super::{Kind, Pool, good, in_rooms};
 use crate::calls::Field;
-use crate::edges;
+use crate::edges::{self, AROUND_LIMIT, LONGEST, combinations};
 use crate::frame::known;
 use crate::random::Random;
 use crate::write::Desk;
@@ -13,6 +13,7 @@ const LENGTHS: [usize; 12] = [0, 1, 2, 63, 64, 65, 256, 1_000, 4_095, 4_096, 4_0
 pub fn each(desk: &mut Desk, pool: &Pool, random: &mut Random, thin: bool) {
     lengths(desk, pool, random, thin);
     places(desk, pool, random, thin);
+    limits(desk, pool, random, thin);
 }
 
 /// One field of the six.
@@ -62,5 +63,55 @@ fn places(desk: &mut Desk, pool: &Pool, random: &mut Random, thin: bool) {
                 in_rooms(desk);
             }
         }
+    }
+}
+
+/// Which of so many fields are not there, as the bits of numbers.
+type Missing = fn(usize) -> Vec<usize>;
+
+/// Every field alone, all of them, or none.
+fn one_or_all(fields: usize) -> Vec<usize> {
+    (0..fields).map(|which| 1 << which).chain([0, (1 << fields) - 1]).collect()
+}
+
+/// Combinations of these lengths in the fields of one to three sessions, some of which end just past the lent bytes: so that
+/// the limit is judged with a wrong place behind it, and before it.
+fn limits(desk: &mut Desk, pool: &Pool, random: &mut Random, thin: bool) {
+    let every: Missing = |fields| (0..1 << fields).collect();
+    let all_or_none: Missing = |fields| vec![0, (1 << fields) - 1];
+    let plan: [(&[usize], usize, Missing); 4] = [
+        (&AROUND_LIMIT, 2, every),
+        (if thin { &[0, 64, 65] } else { &AROUND_LIMIT }, 4, one_or_all),
+        (if thin { &[64, 65] } else { &AROUND_LIMIT[..7] }, 6, all_or_none),
+        (if thin { &[65] } else { &[64, 65, LONGEST] }, 6, one_or_all),
+    ];
+    let (calls, too_long) = desk.calls();
+    for (kind, (lengths, fields, missing)) in Kind::ALL.iter().flat_map(|&kind| plan.map(|part| (kind, part))) {
+        let missing = missing(fields);
+        for lengths in combinations(lengths, fields) {
+            missing.iter().for_each(|&missing| limited(desk, kind, &lengths, missing, pool, random));
+        }
+    }
+    let (calls, too_long) = (desk.calls().0 - calls, desk.calls().1 - too_long);
+    println!("write: {calls} calls with lengths around the limit on nonces and HMACs, {too_long} of them refused by 8");
+    if too_long == 0 {
+        desk.tally(Kind::Command).differs_in_all("no length is beyond the limit");
+    }
+}
+
+/// Such a call without room, and with room enough unless the frame is long: those are written above.
+fn limited(desk: &mut Desk, kind: Kind, lengths: &[usize], missing: usize, pool: &Pool, random: &mut Random) {
+    let row = known::row(0x131).expect("a row");
+    good(desk, kind, &row, (lengths.len() / 2, [0, 0]), pool, random);
+    // all fields lie over each other
+    let end = lengths.iter().max().expect("a field") + 1;
+    pool.fill(&mut desk.case.lent, end, random);
+    for (which, &size) in lengths.iter().enumerate() {
+        *field(desk, which) = Field { at: end - size + (missing >> which & 1), size: size as u16 };
+    }
+    let needed = desk.case.needed();
+    desk.ask_in(0);
+    if needed < 4_096 {
+        desk.ask_in(needed);
     }
 }

@@ -26,7 +26,7 @@ pub fn each(desk: &mut Desk, pool: &Pool, random: &mut Random, rounds: usize) {
         let parameters = random.number() as usize % if one_in(16, random) { 300 } else { 24 };
         pool.fill(&mut desk.case.parameters, parameters, random);
         // seldom so long that each field can have any length
-        let lent = if round % 8_192 == 0 { 66_000 } else { 60 + random.number() as usize % 120 };
+        let lent = if round % 8_192 == 0 { 66_000 } else { 80 + random.number() as usize % 100 };
         pool.fill(&mut desk.case.lent, lent, random);
         desk.case.sessions = Sessions { count, three: [0, 1, 2].map(|at| session(at < count, lent, random)) };
         in_rooms_by(desk, if round % EVERY_MODE == 0 { kind.modes() } else { &[RUST] });
@@ -80,6 +80,6 @@ fn field(lent: usize, random: &mut Random) -> Field {
         };
     }
     let any = random.number() as usize;
-    let size = if lent > u16::MAX.into() { any % (1 << 16) } else { [0, 0, 1, 16, 20, 32, 48, any % 61][any >> 8 & 7] };
+    let size = if lent > u16::MAX.into() { any % (1 << 16) } else { [0, 0, 1, 16, 20, 32, 48, any % 81][any >> 8 & 7] };
     Field { at: random.number() as usize % (lent - size + 1), size: size as u16 }
 }

@@ -8,10 +8,10 @@ use denote.Ref.{now}
 use lib.ListN.{length}
 use Rattle.base.specs.Said.{gives, done}
 use Rattle.base.proofs.Answers.{learnt}
-use Rattle.frame.specs.Answer.{responseByValue, responseOf, saidAreas}
+use Rattle.frame.specs.Answer.{entriesByValue, responseByValue, responseOf, saidAreas}
 use Rattle.frame.specs.Response.{responseAreas, readResponse}
-use Rattle.frame.specs.Rules.{bookOf}
-use Rattle.frame.proofs.Divisions.{responseEntries, parts-of, walk-read, not-divided, by-value, read-header}
+use Rattle.frame.specs.Rules.{unlimited, bookOf}
+use Rattle.frame.proofs.Divisions.{responseEntries, without-limit, parts-of, walk-read, not-divided, by-value, read-header}
 use Rattle.frame.proofs.Headers.{tag-bytes, code-bytes}
 use borrow.Author.Needs.{needs}
 use Rattle.frame.proofs.response.parts.Statement.{statement}
@@ -29,9 +29,15 @@ enum-known-a c = search needs
 -- the areas were found, and the entries passed
 found : (c : tie.After-a)
     → (gives (c .a .given .0 .0) ≡ responseAreas (bookOf (c .before .before .before .before .args .rules)) (c .before .before .before .before .args .cc .0) (now (c .before .before .before .before .args .s)))
-    × (done (responseEntries (now (c .before .before .before .before .args .s)) (c .a .given .0 .0)) ≡ gives tt)
+    × (done (responseEntries (bookOf (c .before .before .before .before .args .rules) .longest) (now (c .before .before .before .before .args .s)) (c .a .given .0 .0)) ≡ gives tt)
 unfolding readResponse
-found c = parts-of _ (responseEntries (now (c .before .before .before .before .args .s))) (learnt saidAreas (c .a .given .1) (c .before .before .divide .ensures))
+found c = parts-of _ (responseEntries (bookOf (c .before .before .before .before .args .rules) .longest) (now (c .before .before .before .before .args .s))) (learnt saidAreas (c .a .given .1) (c .before .before .divide .ensures))
+
+-- and so they do with no limit
+same : (c : tie.After-a)
+    → responseEntries unlimited (now (c .before .before .before .before .args .s)) (c .a .given .0 .0)
+    ≡ responseEntries (bookOf (c .before .before .before .before .args .rules) .longest) (now (c .before .before .before .before .args .s)) (c .a .given .0 .0)
+same c = without-limit (c .before .before .before .before .args .rules) 3 0 (now (c .before .before .before .before .args .s)) (c .a .given .0 .0 .to) (found c .1)
 
 header-there : (c : tie.After-a) → 10 ≤ length (now (c .before .before .before .before .args .s))
 header-there c = read-header _ _ _ (found c .0)
@@ -61,7 +67,7 @@ be32-requires : tie.Need-be32-requires
 be32-requires c κs = search needs
 
 entries-requires : tie.Need-entries-requires
-entries-requires c κs = found (c .before .before .before .before .before .before .before .before .before) .1
+entries-requires c κs = let d = c .before .before .before .before .before .before .before .before .before in ap done (same d) ∙ found d .1
 
 returns : tie.Need-returns
 returns c =
@@ -74,7 +80,7 @@ unfolding readResponse
 returns-2 c =
     let d = c .before .before .before .before .before .before .before .before .before .before in
     let s = now (d .before .before .before .before .args .s) in
-    let read = walk-read (responseAreas _ _ s) (responseEntries s) (found d .0) (c .entries .ensures) in
+    let read = walk-read (responseAreas _ _ s) (responseEntries (bookOf (d .before .before .before .before .args .rules) .longest) s) (found d .0) (c .entries .ensures ∙ ap entriesByValue (same d)) in
     by-value responseOf s _ (read .2) (c .before .before .before .before .before .before .be16 .ensures ∙ tag-bytes s (header-there d)) (c .before .be32 .ensures ∙ code-bytes s (header-there d)) (read .1)
 
 pub parts-spec : {M : Type 1} → statement M

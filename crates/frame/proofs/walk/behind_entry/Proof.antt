@@ -34,17 +34,17 @@ behind-signed-requires-2 c κs = search needs
 
 returns : tie.Need-returns
 returns c =
-    rw (c .before .before .before .before .if1 .taken) (ap behindOf (handle-refused 4 _ _ (learnt saidNumber32 (c .before .e .given .1) (c .before .before .before .read-u32 .ensures))))
+    rw (c .before .before .before .before .if1 .taken) (ap behindOf (handle-refused _ 4 _ _ (learnt saidNumber32 (c .before .e .given .1) (c .before .before .before .read-u32 .ensures))))
 
 returns-2 : tie.Need-returns-2
 returns-2 c =
     let told = c .before in
     rw (told .before .before .before .if1 .taken) (c .behind-signed .ensures
-    ∙ handle-aside (told .enum-told .given .0 .0) _ _
-    ∙ ap behindOf (handle-read 4 _ _ (learnt saidNumber32 (told .enum-told .given .1) (told .before .before .read-u32 .ensures))))
+    ∙ handle-aside _ (told .enum-told .given .0 .0) _ _
+    ∙ ap behindOf (handle-read _ 4 _ _ (learnt saidNumber32 (told .enum-told .given .1) (told .before .before .read-u32 .ensures))))
 
 returns-3 : tie.Need-returns-3
-returns-3 c = rw (c .before .if1 .left) (c .behind-signed2 .ensures ∙ ap behindOf (no-handle _ _))
+returns-3 c = rw (c .before .if1 .left) (c .behind-signed2 .ensures ∙ ap behindOf (no-handle _ _ _))
 
 pub behind-entry-spec : {M : Type 1} → statement M
 behind-entry-spec =

@@ -28,7 +28,7 @@ enum-known-nonce c = search needs
 nonce-inside : (c : tie.After-known-told2)
     → c .before .before .before .before .before .args .place + 2 + c .before .nonce .given .0 .0
     ≤ length (now (c .before .before .before .before .before .args .s))
-nonce-inside c = tpm2b-fits _ _ (sym (learnt saidNumber16 (c .before .nonce .given .1) (c .before .before .before .tpm2b .ensures))) .1
+nonce-inside c = tpm2b-fits _ _ _ (sym (learnt saidNumber16 (c .before .nonce .given .1) (c .before .before .before .tpm2b .ensures .0))) .1
 
 add-at : tie.Need-add-at
 add-at c = let inside = nonce-inside c in omega arith
@@ -40,7 +40,7 @@ add-at-2 : tie.Need-add-at-2
 add-at-2 c = let inside = nonce-inside c in omega arith
 
 returns : tie.Need-returns
-returns c = ap behindOf (attributes-refused 0 _ _ (learnt saidNumber16 (c .before .before .nonce .given .1) (c .before .before .before .before .tpm2b .ensures)) (c .if1 .taken))
+returns c = ap behindOf (attributes-refused _ 0 _ _ (learnt saidNumber16 (c .before .before .nonce .given .1) (c .before .before .before .before .tpm2b .ensures .0)) (c .if1 .taken))
 
 add-tpm2b : tie.Need-add-tpm2b
 add-tpm2b c = search needs
@@ -54,27 +54,27 @@ enum-known-e-2 c = search needs
 enum-known-hmac : tie.Need-enum-known-hmac
 enum-known-hmac c = search needs
 
-add-t16 : tie.Need-add-t16
-add-t16 c = search needs
+add-t17 : tie.Need-add-t17
+add-t17 c = search needs
 
-cast-t17 : tie.Need-cast-t17
-cast-t17 c = search needs
+cast-t18 : tie.Need-cast-t18
+cast-t18 c = search needs
 
-add-t18 : tie.Need-add-t18
-add-t18 c = search needs
+add-t19 : tie.Need-add-t19
+add-t19 c = search needs
 
 returns-2 : tie.Need-returns-2
-returns-2 c = ap behindOf (nonce-refused 0 _ _ (learnt saidNumber16 (c .before .e .given .1) (c .before .before .before .tpm2b .ensures)))
+returns-2 c = ap behindOf (nonce-refused _ 0 _ _ (learnt saidNumber16 (c .before .e .given .1) (c .before .before .before .tpm2b .ensures .0)))
 
 returns-3 : tie.Need-returns-3
 returns-3 c =
     let asked = c .before .before .before .before in
-    ap behindOf (hmac-refused 0 _ _ (learnt saidNumber16 (asked .before .before .nonce .given .1) (asked .before .before .before .before .tpm2b .ensures)) (asked .if1 .left) (learnt saidNumber16 (c .before .e2 .given .1) (c .before .before .before .tpm2b2 .ensures)))
+    ap behindOf (hmac-refused _ 0 _ _ (learnt saidNumber16 (asked .before .before .nonce .given .1) (asked .before .before .before .before .tpm2b .ensures .0)) (asked .if1 .left) (learnt saidNumber16 (c .before .e2 .given .1) (c .before .before .before .tpm2b2 .ensures .0)))
 
 returns-4 : tie.Need-returns-4
 returns-4 c =
     let asked = c .before .before .before .before in
-    ap behindOf (signed-read 0 _ _ (learnt saidNumber16 (asked .before .before .nonce .given .1) (asked .before .before .before .before .tpm2b .ensures)) (asked .if1 .left) (learnt saidNumber16 (c .before .hmac .given .1) (c .before .before .before .tpm2b2 .ensures)))
+    ap behindOf (signed-read _ 0 _ _ (learnt saidNumber16 (asked .before .before .nonce .given .1) (asked .before .before .before .before .tpm2b .ensures .0)) (asked .if1 .left) (learnt saidNumber16 (c .before .hmac .given .1) (c .before .before .before .tpm2b2 .ensures .0)))
 
 pub behind-signed-spec : {M : Type 1} → statement M
 behind-signed-spec =
@@ -91,9 +91,9 @@ behind-signed-spec =
     tpm2b-requires-2
     enum-known-e-2
     enum-known-hmac
-    add-t16
-    cast-t17
-    add-t18
+    add-t17
+    cast-t18
+    add-t19
     returns-2
     returns-3
     returns-4)

@@ -7,6 +7,7 @@ use native.Mathlib.Omega.{arith}
 use lib.ListN.{length}
 use denote.Ref.{now}
 use Rattle.frame.specs.Answer.{handleWidth}
+use Rattle.frame.specs.Rules.{unlimited}
 use Rattle.frame.specs.Walk.{behind}
 use Rattle.frame.proofs.EntryLaws.{entry-inside}
 use Rattle.frame.proofs.Walks.{Found, none-found, found-few, all-found, one-there, one-found, with-first, with-second, with-third}
@@ -15,7 +16,7 @@ use Rattle.frame.proofs.walk.entries.Statement.{statement}
 use Rattle.frame.proofs.walk.entries.Tie as tie
 
 abbrev Inv-loop : tie.InvT-loop
-Inv-loop command s place found₀ at₀ found at = Found (handleWidth command) s place found at
+Inv-loop command s place found₀ at₀ found at = Found unlimited (handleWidth command) s place found at
 
 abbrev μ-loop : tie.MeasureT-loop
 μ-loop command s place found₀ at₀ found at = 3 - found .count
@@ -26,7 +27,7 @@ new-requires c κs = search needs
 loop-holds : tie.Need-loop-holds Inv-loop μ-loop
 loop-holds c =
     let start = c .before .before in
-    rw (c .new .ensures) (none-found (handleWidth (start .args .command)) (now (start .args .s)) (start .args .place) (start .pre))
+    rw (c .new .ensures) (none-found unlimited (handleWidth (start .args .command)) (now (start .args .s)) (start .args .place) (start .pre))
 
 entry-at-requires : tie.Need-entry-at-requires Inv-loop μ-loop
 entry-at-requires c κs = one-there (c .before .loop .inv) (c .loop-test .taken)
@@ -38,7 +39,7 @@ add-at : tie.Need-add-at Inv-loop μ-loop
 add-at c =
     let one = c .before .before in
     let start = one .before .before .before .before .before in
-    let inside : behind (one .entry-at .result) ≤ length (now (start .args .s)) = entry-inside _ _ _ (sym (one .entry-at .ensures)) .1 in
+    let inside : behind (one .entry-at .result) ≤ length (now (start .args .s)) = entry-inside _ _ _ _ (sym (one .entry-at .ensures)) .1 .1 in
     let short = start .good .1 .0 .0 in
     omega arith
 

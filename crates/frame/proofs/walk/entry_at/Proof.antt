@@ -13,7 +13,7 @@ use Rattle.frame.proofs.walk.entry_at.Tie as tie
 
 -- the handle stands within the bytes
 four-there : (c : tie.Then1) → c .before .before .args .place + 4 ≤ length (now (c .before .before .args .s))
-four-there c = handle-there 4 _ _ (omega arith) (rw (c .if1 .taken) at (c .before .before .pre))
+four-there c = handle-there _ 4 _ _ (omega arith) (rw (c .if1 .taken) at (c .before .before .pre))
 
 shared-slice-read-be32 : tie.Need-shared-slice-read-be32
 shared-slice-read-be32 c = let there = four-there (c .before) in omega arith
@@ -46,20 +46,20 @@ signed-at-requires : tie.Need-signed-at-requires
 signed-at-requires c κs =
     let asked = c .before .before .before .before .before in
     let start = asked .before .before in
-    ap done (handle-read 4 _ _ (four-bytes (now (start .args .s)) (start .args .place) (four-there asked) (c .be32 .ensures))) ∙ rw (asked .if1 .taken) at (start .pre)
+    ap done (handle-read _ 4 _ _ (four-bytes (now (start .args .s)) (start .args .place) (four-there asked) (c .be32 .ensures))) ∙ rw (asked .if1 .taken) at (start .pre)
 
 signed-at-requires-2 : tie.Need-signed-at-requires-2
 signed-at-requires-2 c κs =
-    ap done (no-handle _ _) ∙ rw (c .if1 .left) at (c .before .before .pre)
+    ap done (no-handle _ _ _) ∙ rw (c .if1 .left) at (c .before .before .pre)
 
 returns : tie.Need-returns
 returns c =
     let asked = c .before .before .before .before .before .before in
     let start = asked .before .before in
-    rw (asked .if1 .taken) (c .signed-at .ensures ∙ handle-read 4 _ _ (four-bytes (now (start .args .s)) (start .args .place) (four-there asked) (c .before .be32 .ensures)))
+    rw (asked .if1 .taken) (c .signed-at .ensures ∙ handle-read _ 4 _ _ (four-bytes (now (start .args .s)) (start .args .place) (four-there asked) (c .before .be32 .ensures)))
 
 returns-2 : tie.Need-returns-2
-returns-2 c = rw (c .before .if1 .left) (c .signed-at2 .ensures ∙ no-handle _ _)
+returns-2 c = rw (c .before .if1 .left) (c .signed-at2 .ensures ∙ no-handle _ _ _)
 
 pub entry-at-spec : {M : Type 1} → statement M
 entry-at-spec =

@@ -11,10 +11,10 @@ use Rattle.frame.proofs.walk.signed_at.Tie as tie
 
 -- the size of the nonce stands within the bytes, and so does all up to the size of the HMAC
 two-there : (c : tie.Start) → c .args .place + 2 ≤ length (now (c .args .s))
-two-there c = nonce-there _ _ _ (c .pre)
+two-there c = nonce-there _ _ _ _ (c .pre)
 
 all-there : (c : tie.After-be16) → c .before .before .before .before .args .place + 2 + c .be16 .result + 3 ≤ length (now (c .before .before .before .before .args .s))
-all-there c = hmac-there _ _ _ (c .before .before .before .before .pre) (c .be16 .ensures)
+all-there c = hmac-there _ _ _ _ (c .before .before .before .before .pre) (c .be16 .ensures)
 
 shared-slice-read-be16 : tie.Need-shared-slice-read-be16
 shared-slice-read-be16 c = let there = two-there (c .before .before) in omega arith
@@ -65,7 +65,7 @@ returns : tie.Need-returns
 returns c =
     let nonce = c .before .before .before .before in
     let start = nonce .before .before .before .before in
-    signed-there _ (now (start .args .s)) (start .args .place) (start .pre) (nonce .be16 .ensures) (c .be162 .ensures)
+    signed-there _ _ (now (start .args .s)) (start .args .place) (start .pre) (nonce .be16 .ensures) (c .be162 .ensures)
 
 pub signed-at-spec : {M : Type 1} → statement M
 signed-at-spec =

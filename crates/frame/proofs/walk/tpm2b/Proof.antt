@@ -5,7 +5,7 @@ use native.Mathlib.Omega.{arith}
 use denote.Ref.{now}
 use Rattle.base.specs.Answer.{saidNumber16}
 use Rattle.base.proofs.Answers.{learnt}
-use Rattle.frame.proofs.Walks.{field-there, tpm2b-refused, tpm2b-short, tpm2b-read}
+use Rattle.frame.proofs.Walks.{field-there, goes-by, tpm2b-refused, tpm2b-long, tpm2b-short, tpm2b-read}
 use borrow.Author.Needs.{needs}
 use Rattle.frame.proofs.walk.tpm2b.Statement.{statement}
 use Rattle.frame.proofs.walk.tpm2b.Tie as tie
@@ -20,7 +20,18 @@ enum-told : tie.Need-enum-told
 enum-told c = search needs
 
 returns : tie.Need-returns
-returns c = ap saidNumber16 (c .enum-told .given .1) ∙ tpm2b-refused _ _ (learnt saidNumber16 (c .enum-told .given .1) (c .before .before .read-u16 .ensures))
+returns c =
+    goes-by _ _ _ (ap saidNumber16 (c .enum-told .given .1) ∙ tpm2b-refused _ _ _ (learnt saidNumber16 (c .enum-told .given .1) (c .before .before .read-u16 .ensures)))
+
+cast-if1 : tie.Need-cast-if1
+cast-if1 c = search needs
+
+cast-t10 : tie.Need-cast-t10
+cast-t10 c = search needs
+
+returns-2 : tie.Need-returns-2
+returns-2 c =
+    goes-by _ _ _ (tpm2b-long _ _ _ (learnt saidNumber16 (c .before .before .read .given .1) (c .before .before .before .before .read-u16 .ensures)) (c .if1 .taken))
 
 cast-needed : tie.Need-cast-needed
 cast-needed c = search needs
@@ -30,15 +41,19 @@ add-needed c = search needs
 
 sub-left : tie.Need-sub-left
 sub-left c =
-    let a = c .before .before .before .before .before .args in
-    let there = field-there 2 (a .place) (now (a .s)) (omega arith) (learnt saidNumber16 (c .before .read .given .1) (c .before .before .before .read-u16 .ensures)) in
+    let a = c .before .before .before .before .before .before .args in
+    let there = field-there 2 (a .place) (now (a .s)) (omega arith) (learnt saidNumber16 (c .before .before .read .given .1) (c .before .before .before .before .read-u16 .ensures)) in
     omega arith
 
-returns-2 : tie.Need-returns-2
-returns-2 c = tpm2b-short _ _ (learnt saidNumber16 (c .before .before .read .given .1) (c .before .before .before .before .read-u16 .ensures)) (c .if1 .taken)
-
 returns-3 : tie.Need-returns-3
-returns-3 c = tpm2b-read _ _ (learnt saidNumber16 (c .before .before .read .given .1) (c .before .before .before .before .read-u16 .ensures)) (c .if1 .left)
+returns-3 c =
+    let within = c .before in
+    goes-by _ _ _ (tpm2b-short _ _ _ (learnt saidNumber16 (within .before .before .read .given .1) (within .before .before .before .before .read-u16 .ensures)) (within .if1 .left) (c .if2 .taken))
+
+returns-4 : tie.Need-returns-4
+returns-4 c =
+    let within = c .before in
+    goes-by _ _ _ (tpm2b-read _ _ _ (learnt saidNumber16 (within .before .before .read .given .1) (within .before .before .before .before .read-u16 .ensures)) (within .if1 .left) (c .if2 .left))
 
 pub tpm2b-spec : {M : Type 1} → statement M
 tpm2b-spec =
@@ -48,8 +63,11 @@ tpm2b-spec =
     enum-known-read
     enum-told
     returns
+    cast-if1
+    cast-t10
+    returns-2
     cast-needed
     add-needed
     sub-left
-    returns-2
-    returns-3)
+    returns-3
+    returns-4)

@@ -13,16 +13,16 @@ use Rattle.frame.proofs.walk.walk.Statement.{statement}
 use Rattle.frame.proofs.walk.walk.Tie as tie
 
 abbrev Inv-loop : tie.InvT-loop
-Inv-loop command s place count₀ at₀ count at = Counted (handleWidth command) s place count at
+Inv-loop limit command s place count₀ at₀ count at = Counted limit (handleWidth command) s place count at
 
 abbrev μ-loop : tie.MeasureT-loop
-μ-loop command s place count₀ at₀ count at = 3 - count
+μ-loop limit command s place count₀ at₀ count at = 3 - count
 
 loop-holds : tie.Need-loop-holds Inv-loop μ-loop
-loop-holds c = let a = c .before .args in none-counted (handleWidth (a .command)) (now (a .s)) (a .place)
+loop-holds c = let a = c .before .args in none-counted (a .limit) (handleWidth (a .command)) (now (a .s)) (a .place)
 
-add-t10 : tie.Need-add-t10 Inv-loop μ-loop
-add-t10 c = search needs
+add-t11 : tie.Need-add-t11 Inv-loop μ-loop
+add-t11 c = search needs
 
 returns : tie.Need-returns Inv-loop μ-loop
 returns c = one-too-many (c .before .before .loop .inv) (c .before .loop-test .taken) (c .if1 .taken)
@@ -67,7 +67,7 @@ walk-spec =
     Inv-loop
     μ-loop
     loop-holds
-    add-t10
+    add-t11
     returns
     behind-entry-requires
     enum-known-e

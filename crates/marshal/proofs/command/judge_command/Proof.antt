@@ -10,7 +10,7 @@ use Rattle.frame.specs.Rules.{bookOf}
 use Rattle.table.specs.Table.{saidFound}
 use Rattle.marshal.specs.Handed.{handed}
 use Rattle.marshal.specs.Write.{counted}
-use Rattle.marshal.proofs.Judgements.{entries-bound}
+use Rattle.marshal.proofs.Judgements.{entries-found, entries-bound}
 use Rattle.marshal.proofs.Writers.{wrong-tag, many-sessions, no-row, command-judged}
 use borrow.Author.Needs.{needs}
 use Rattle.marshal.proofs.command.judge_command.Statement.{statement}
@@ -37,19 +37,28 @@ enum-known-e c = search needs
 enum-known-row : tie.Need-enum-known-row
 enum-known-row c = search needs
 
+longest-requires : tie.Need-longest-requires
+longest-requires c κs = search needs
+
+look-requires : tie.Need-look-requires
+look-requires c κs = search needs
+
 entries-length-requires : tie.Need-entries-length-requires
 entries-length-requires c κs = search needs
 
+found-requires : tie.Need-found-requires
+found-requires c κs = search needs
+
 judge-requires : tie.Need-judge-requires
 judge-requires c κs =
-    let a = c .before .before .before .before .before .before .before .before .before .before .before .before .before .args in
-    let good = c .before .before .before .before .before .before .before .before .before .before .before .before .before .good .1 .1 .1 .1 .0 in
+    let a = c .before .before .before .before .before .before .before .before .before .before .before .before .before .before .before .before .args in
+    let good = c .before .before .before .before .before .before .before .before .before .before .before .before .before .before .before .before .good .1 .1 .1 .1 .0 in
     let first = good .1 .1 .1 .0 in
     let second = good .1 .1 .1 .1 .0 in
     let third = good .1 .1 .1 .1 .1 .0 in
-    entries-bound true (length (now (a .lent))) (a .sessions) (first .1 .1 .1 .0 .1 .1 .1 .0 .1, first .1 .1 .1 .1 .1 .0 .1 .1 .1 .0 .1)
+    entries-bound (c .before .before .before .longest .result) true (length (now (a .lent))) (a .sessions) (first .1 .1 .1 .0 .1 .1 .1 .0 .1, first .1 .1 .1 .1 .1 .0 .1 .1 .1 .0 .1)
     (second .1 .1 .1 .0 .1 .1 .1 .0 .1, second .1 .1 .1 .1 .1 .0 .1 .1 .1 .0 .1) (third .1 .1 .1 .0 .1 .1 .1 .0 .1, third .1 .1 .1 .1 .1 .0 .1 .1 .1 .0 .1)
-    (c .entries-length .ensures)
+    (c .found .ensures ∙ entries-found _ _ 4 _ (c .before .before .look .ensures) (c .before .entries-length .ensures))
 
 returns-2 : tie.Need-returns-2
 returns-2 c =
@@ -59,10 +68,10 @@ returns-2 c =
 
 returns-3 : tie.Need-returns-3
 returns-3 c =
-    let a = c .before .before .before .before .before .before .before .before .before .before .before .before .before .before .args in
+    let a = c .before .before .before .before .before .before .before .before .before .before .before .before .before .before .before .before .before .args in
     let h = handed (now (a .handles)) (a .sessions) (now (a .lent)) (now (a .parameters)) in
-    c .judge .ensures 4 h refl (c .before .entries-length .ensures) refl
-    ∙ command-judged (bookOf (a .rules)) (a .tag .0) (a .cc .0) h (a .room) (c .before .before .before .before .before .before .before .before .if1 .taken ∙ c .before .before .before .before .before .before .before .before .before .before .tag-for .ensures) (c .before .before .before .before .before .before .if2 .left) (learnt saidFound (c .before .before .before .row .given .1) (c .before .before .before .before .before .find .ensures))
+    c .judge .ensures (bookOf (a .rules) .longest) 4 h refl (rw (c .before .before .before .before .longest .ensures) at (c .before .found .ensures ∙ entries-found _ _ 4 _ (c .before .before .before .look .ensures) (c .before .before .entries-length .ensures))) refl
+    ∙ command-judged (bookOf (a .rules)) (a .tag .0) (a .cc .0) h (a .room) (c .before .before .before .before .before .before .before .before .before .before .before .if1 .taken ∙ c .before .before .before .before .before .before .before .before .before .before .before .before .before .tag-for .ensures) (c .before .before .before .before .before .before .before .before .before .if2 .left) (learnt saidFound (c .before .before .before .before .before .before .row .given .1) (c .before .before .before .before .before .before .before .before .find .ensures))
 
 refused-requires : tie.Need-refused-requires
 refused-requires c κs = search needs
@@ -83,7 +92,10 @@ judge-command-spec =
     find-requires
     enum-known-e
     enum-known-row
+    longest-requires
+    look-requires
     entries-length-requires
+    found-requires
     judge-requires
     returns-2
     returns-3

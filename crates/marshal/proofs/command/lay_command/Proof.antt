@@ -9,6 +9,7 @@ use denote.Ref.{now}
 use Rattle.frame.specs.declared.session.Session.{Session}
 use Rattle.frame.specs.Layout.{layoutCommand, layoutEntries}
 use Rattle.frame.specs.Parts.{entriesIn}
+use Rattle.frame.specs.Rules.{unlimited}
 use Rattle.marshal.specs.Handed.{handed, entriesHanded}
 use Rattle.marshal.proofs.Frames.{
   command-total,
@@ -38,7 +39,7 @@ put-header-requires c κs =
     let a = b .args in
     let h = handed (now (a .handles)) (a .sessions) (now (a .lent)) (now (a .parameters)) in
     let e = layoutEntries 4 (entriesHanded h) in
-    let whole = b .pre .total-is ∙ command-total h (b .pre .there) (a .tag .0) in
+    let whole = b .pre .total-is ∙ command-total unlimited h (b .pre .there) (a .tag .0) in
     header-room (a .tag .0) (a .cc .0) (a .total) (now (a .handles)) e (now (a .parameters)) (now (a .room)) whole (b .pre .room-for)
 
 put-requires : tie.Need-put-requires
@@ -47,7 +48,7 @@ put-requires c κs =
     let a = b .args in
     let h = handed (now (a .handles)) (a .sessions) (now (a .lent)) (now (a .parameters)) in
     let e = layoutEntries 4 (entriesHanded h) in
-    let whole = b .pre .total-is ∙ command-total h (b .pre .there) (a .tag .0) in
+    let whole = b .pre .total-is ∙ command-total unlimited h (b .pre .there) (a .tag .0) in
     handles-room (a .tag .0) (a .cc .0) (a .total) (now (a .handles)) e (now (a .parameters)) (now (a .room)) whole (b .pre .room-for) (c .before .before .before .put-header .ensures)
 
 put-requires-2 : tie.Need-put-requires-2
@@ -56,7 +57,7 @@ put-requires-2 c κs =
     let a = b .args in
     let h = handed (now (a .handles)) (a .sessions) (now (a .lent)) (now (a .parameters)) in
     let e = layoutEntries 4 (entriesHanded h) in
-    let whole = b .pre .total-is ∙ command-total h (b .pre .there) (a .tag .0) in
+    let whole = b .pre .total-is ∙ command-total unlimited h (b .pre .there) (a .tag .0) in
     let none : e ≡ [] = ap (λ (es : List Session). layoutEntries 4 (entriesIn (now (a .lent)) es)) (entries-none (a .sessions) (c .before .if1 .taken)) in
     rw none at (plain-room (a .tag .0) (a .cc .0) (a .total) (now (a .handles)) e (now (a .parameters)) (now (a .room)) whole (b .pre .room-for) (c .before .before .before .before .before .before .before .before .before .put-header .ensures) (c .before .before .before .before .before .put .ensures) (plain-tag (b .pre .tag-is) (c .before .if1 .taken)))
 
@@ -70,7 +71,7 @@ returns c =
     let a = b .args in
     let h = handed (now (a .handles)) (a .sessions) (now (a .lent)) (now (a .parameters)) in
     let e = layoutEntries 4 (entriesHanded h) in
-    let whole = b .pre .total-is ∙ command-total h (b .pre .there) (a .tag .0) in
+    let whole = b .pre .total-is ∙ command-total unlimited h (b .pre .there) (a .tag .0) in
     let none : e ≡ [] = ap (λ (es : List Session). layoutEntries 4 (entriesIn (now (a .lent)) es)) (entries-none (a .sessions) (c .before .before .before .before .if1 .taken)) in
     plain-put (a .tag .0) (a .cc .0) (a .total) (now (a .handles)) e (now (a .parameters)) (now (a .room)) whole (b .pre .room-for) (c .before .before .before .before .before .before .before .before .before .before .before .before .put-header .ensures) (c .before .before .before .before .before .before .before .before .put .ensures) (plain-tag (b .pre .tag-is) (c .before .before .before .before .if1 .taken)) {end = c .before .before .put2 .result} (rw none (c .before .before .put2 .ensures))
 
@@ -80,7 +81,7 @@ sub-size c =
     let a = b .args in
     let h = handed (now (a .handles)) (a .sessions) (now (a .lent)) (now (a .parameters)) in
     let e = layoutEntries 4 (entriesHanded h) in
-    let whole = b .pre .total-is ∙ command-total h (b .pre .there) (a .tag .0) in
+    let whole = b .pre .total-is ∙ command-total unlimited h (b .pre .there) (a .tag .0) in
     let signed = sessions-tag (b .pre .tag-is) (c .if1 .left) in
     let sum = sizes (a .tag .0) (a .cc .0) (a .total) (now (a .handles)) e (now (a .parameters)) (now (a .room)) whole (b .pre .room-for) (c .before .before .before .before .before .before .before .before .put-header .ensures) (c .before .before .before .before .put .ensures) signed in
     omega arith
@@ -91,7 +92,7 @@ sub-size-2 c =
     let a = b .args in
     let h = handed (now (a .handles)) (a .sessions) (now (a .lent)) (now (a .parameters)) in
     let e = layoutEntries 4 (entriesHanded h) in
-    let whole = b .pre .total-is ∙ command-total h (b .pre .there) (a .tag .0) in
+    let whole = b .pre .total-is ∙ command-total unlimited h (b .pre .there) (a .tag .0) in
     let signed = sessions-tag (b .pre .tag-is) (c .if1 .left) in
     let sum = sizes (a .tag .0) (a .cc .0) (a .total) (now (a .handles)) e (now (a .parameters)) (now (a .room)) whole (b .pre .room-for) (c .before .before .before .before .before .before .before .before .put-header .ensures) (c .before .before .before .before .put .ensures) signed in
     omega arith
@@ -102,7 +103,7 @@ sub-size-3 c =
     let a = b .args in
     let h = handed (now (a .handles)) (a .sessions) (now (a .lent)) (now (a .parameters)) in
     let e = layoutEntries 4 (entriesHanded h) in
-    let whole = b .pre .total-is ∙ command-total h (b .pre .there) (a .tag .0) in
+    let whole = b .pre .total-is ∙ command-total unlimited h (b .pre .there) (a .tag .0) in
     let signed = sessions-tag (b .pre .tag-is) (c .if1 .left) in
     let sum = sizes (a .tag .0) (a .cc .0) (a .total) (now (a .handles)) e (now (a .parameters)) (now (a .room)) whole (b .pre .room-for) (c .before .before .before .before .before .before .before .before .put-header .ensures) (c .before .before .before .before .put .ensures) signed in
     omega arith
@@ -113,7 +114,7 @@ cast-put-u32 c =
     let a = b .args in
     let h = handed (now (a .handles)) (a .sessions) (now (a .lent)) (now (a .parameters)) in
     let e = layoutEntries 4 (entriesHanded h) in
-    let whole = b .pre .total-is ∙ command-total h (b .pre .there) (a .tag .0) in
+    let whole = b .pre .total-is ∙ command-total unlimited h (b .pre .there) (a .tag .0) in
     let signed = sessions-tag (b .pre .tag-is) (c .if1 .left) in
     let sum = sizes (a .tag .0) (a .cc .0) (a .total) (now (a .handles)) e (now (a .parameters)) (now (a .room)) whole (b .pre .room-for) (c .before .before .before .before .before .before .before .before .put-header .ensures) (c .before .before .before .before .put .ensures) signed in
     let small = b .pre .small in
@@ -125,7 +126,7 @@ put-u32-requires c κs =
     let a = b .args in
     let h = handed (now (a .handles)) (a .sessions) (now (a .lent)) (now (a .parameters)) in
     let e = layoutEntries 4 (entriesHanded h) in
-    let whole = b .pre .total-is ∙ command-total h (b .pre .there) (a .tag .0) in
+    let whole = b .pre .total-is ∙ command-total unlimited h (b .pre .there) (a .tag .0) in
     size-room (a .tag .0) (a .cc .0) (a .total) (now (a .handles)) e (now (a .parameters)) (now (a .room)) whole (b .pre .room-for) (c .before .before .before .before .before .before .before .before .before .put-header .ensures) (c .before .before .before .before .before .put .ensures) (sessions-tag (b .pre .tag-is) (c .before .if1 .left))
 
 put-entries-requires : tie.Need-put-entries-requires
@@ -134,7 +135,7 @@ put-entries-requires c κs =
     let a = b .args in
     let h = handed (now (a .handles)) (a .sessions) (now (a .lent)) (now (a .parameters)) in
     let e = layoutEntries 4 (entriesHanded h) in
-    let whole = b .pre .total-is ∙ command-total h (b .pre .there) (a .tag .0) in
+    let whole = b .pre .total-is ∙ command-total unlimited h (b .pre .there) (a .tag .0) in
     let signed = sessions-tag (b .pre .tag-is) (c .before .before .before .before .before .if1 .left) in
     let sum = sizes (a .tag .0) (a .cc .0) (a .total) (now (a .handles)) e (now (a .parameters)) (now (a .room)) whole (b .pre .room-for) (c .before .before .before .before .before .before .before .before .before .before .before .before .before .put-header .ensures) (c .before .before .before .before .before .before .before .before .before .put .ensures) signed in
     let is : a .total - c .before .before .before .before .before .before .before .before .before .put .result - 4 - length (now (a .parameters)) ≡ length e = omega arith in
@@ -147,7 +148,7 @@ put-requires-3 c κs =
     let a = b .args in
     let h = handed (now (a .handles)) (a .sessions) (now (a .lent)) (now (a .parameters)) in
     let e = layoutEntries 4 (entriesHanded h) in
-    let whole = b .pre .total-is ∙ command-total h (b .pre .there) (a .tag .0) in
+    let whole = b .pre .total-is ∙ command-total unlimited h (b .pre .there) (a .tag .0) in
     let signed = sessions-tag (b .pre .tag-is) (c .before .before .before .before .before .before .before .before .before .if1 .left) in
     let sum = sizes (a .tag .0) (a .cc .0) (a .total) (now (a .handles)) e (now (a .parameters)) (now (a .room)) whole (b .pre .room-for) (c .before .before .before .before .before .before .before .before .before .before .before .before .before .before .before .before .before .put-header .ensures) (c .before .before .before .before .before .before .before .before .before .before .before .before .before .put .ensures) signed in
     let is : a .total - c .before .before .before .before .before .before .before .before .before .before .before .before .before .put .result - 4 - length (now (a .parameters)) ≡ length e = omega arith in
@@ -164,7 +165,7 @@ returns-2 c =
     let a = b .args in
     let h = handed (now (a .handles)) (a .sessions) (now (a .lent)) (now (a .parameters)) in
     let e = layoutEntries 4 (entriesHanded h) in
-    let whole = b .pre .total-is ∙ command-total h (b .pre .there) (a .tag .0) in
+    let whole = b .pre .total-is ∙ command-total unlimited h (b .pre .there) (a .tag .0) in
     let signed = sessions-tag (b .pre .tag-is) (c .before .before .before .before .before .before .before .before .before .before .before .before .if1 .left) in
     let sum = sizes (a .tag .0) (a .cc .0) (a .total) (now (a .handles)) e (now (a .parameters)) (now (a .room)) whole (b .pre .room-for) (c .before .before .before .before .before .before .before .before .before .before .before .before .before .before .before .before .before .before .before .before .put-header .ensures) (c .before .before .before .before .before .before .before .before .before .before .before .before .before .before .before .before .put .ensures) signed in
     let is : a .total - c .before .before .before .before .before .before .before .before .before .before .before .before .before .before .before .before .put .result - 4 - length (now (a .parameters)) ≡ length e = omega arith in

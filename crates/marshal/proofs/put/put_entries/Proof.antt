@@ -5,6 +5,7 @@ use lib.ListN.{take}
 use Prim.Native.Nat.{_-_}
 use denote.Ref.{now}
 use Rattle.frame.specs.Answer.{handleWidth}
+use Rattle.frame.specs.Rules.{unlimited}
 use Rattle.marshal.proofs.Lengths.{sessions-first}
 use Rattle.marshal.proofs.Rooms.{puts-none}
 use Rattle.marshal.proofs.Sessions.{entries-none, entries-one, entries-two, entries-first, entries-second, entries-third}
@@ -27,7 +28,7 @@ put-entry-requires c κs =
     let l = now (a .lent) in
     let all = entries-first es (c .before .if1 .left) in
     let others = take (es .count - 1) (es .second ∷ es .third ∷ []) in
-    (sessions-first l (es .first) others (rw all at (b .pre .0)) .0, entry-room w l (a .place) (now (a .room)) (es .first) others (rw all at (b .pre .1)))
+    (sessions-first unlimited l (es .first) others (rw all at (b .pre .0)) .0, entry-room w l (a .place) (now (a .room)) (es .first) others (rw all at (b .pre .1)))
 
 same-length : tie.Need-same-length
 same-length c = search needs
@@ -46,9 +47,9 @@ put-entry-requires-2 c κs =
     let l = now (a .lent) in
     let all = entries-second es (c .before .before .before .before .before .before .before .if1 .left) (c .before .if2 .left) in
     let others = take (es .count - 2) (es .third ∷ []) in
-    let there = sessions-first l (es .first) (es .second ∷ others) (rw all at (b .pre .0)) .1 in
+    let there = sessions-first unlimited l (es .first) (es .second ∷ others) (rw all at (b .pre .0)) .1 in
     let room = entries-room w l (a .place) (now (a .room)) (es .first) (es .second ∷ others) (rw all at (b .pre .1)) (c .before .before .before .before .before .put-entry .ensures) in
-    (sessions-first l (es .second) others there .0, entry-room w l _ (c .before .before .before .before .before .put-entry .last .1 .1 .1 .1 .0) (es .second) others room)
+    (sessions-first unlimited l (es .second) others there .0, entry-room w l _ (c .before .before .before .before .before .put-entry .last .1 .1 .1 .1 .0) (es .second) others room)
 
 same-length-2 : tie.Need-same-length-2
 same-length-2 c = search needs
@@ -72,11 +73,11 @@ put-entry-requires-3 c κs =
     let w = handleWidth (a .command) in
     let l = now (a .lent) in
     let all = entries-third es (c .before .before .before .before .before .before .before .before .before .before .before .before .before .if1 .left) (c .before .before .before .before .before .before .before .if2 .left) (c .before .if3 .left) in
-    let there = sessions-first l (es .first) (es .second ∷ es .third ∷ []) (rw all at (b .pre .0)) .1 in
-    let behind = sessions-first l (es .second) (es .third ∷ []) there .1 in
+    let there = sessions-first unlimited l (es .first) (es .second ∷ es .third ∷ []) (rw all at (b .pre .0)) .1 in
+    let behind = sessions-first unlimited l (es .second) (es .third ∷ []) there .1 in
     let room = entries-room w l (a .place) (now (a .room)) (es .first) (es .second ∷ es .third ∷ []) (rw all at (b .pre .1)) (c .before .before .before .before .before .before .before .before .before .before .before .put-entry .ensures) in
     let rest = entries-room w l _ _ (es .second) (es .third ∷ []) room (c .before .before .before .before .before .put-entry2 .ensures) in
-    (sessions-first l (es .third) [] behind .0, entry-room w l _ (c .before .before .before .before .before .put-entry2 .last .1 .1 .1 .1 .0) (es .third) [] rest)
+    (sessions-first unlimited l (es .third) [] behind .0, entry-room w l _ (c .before .before .before .before .before .put-entry2 .last .1 .1 .1 .1 .0) (es .third) [] rest)
 
 same-length-3 : tie.Need-same-length-3
 same-length-3 c = search needs

@@ -6,6 +6,7 @@ use lib.ListN.{length-set}
 use denote.Ref.{now}
 use Rattle.frame.specs.Parts.{entryIn}
 use Rattle.base.specs.Tpm2b.{tpm2b}
+use Rattle.frame.specs.Rules.{unlimited}
 use Rattle.marshal.proofs.Lengths.{session-fields}
 use Rattle.marshal.proofs.Rooms.{room-first}
 use Rattle.marshal.proofs.Steps.{byte-room, hmac-room, signed-put}
@@ -17,7 +18,7 @@ put-tpm2b-requires c κs =
     let b = c .before .before .before in
     let a = b .args in
     let x = entryIn (now (a .lent)) (a .e) in
-    (session-fields (now (a .lent)) (a .e) (b .pre .0) .0, room-first (a .place) (tpm2b (x .nonce)) _ (now (a .room)) (b .pre .1))
+    (session-fields unlimited (now (a .lent)) (a .e) (b .pre .0) .0, room-first (a .place) (tpm2b (x .nonce)) _ (now (a .room)) (b .pre .1))
 
 slice-write-room : tie.Need-slice-write-room
 slice-write-room c =
@@ -37,7 +38,7 @@ put-tpm2b-requires-2 c κs =
     let b = c .before .before .before .before .before .before .before in
     let a = b .args in
     let x = entryIn (now (a .lent)) (a .e) in (
-      session-fields (now (a .lent)) (a .e) (b .pre .0) .1,
+      session-fields unlimited (now (a .lent)) (a .e) (b .pre .0) .1,
       hmac-room x (a .place) (now (a .room)) (b .pre .1) (c .before .before .before .put-tpm2b .ensures),
     )
 

@@ -4,6 +4,7 @@ use native.Mathlib.Omega.{arith}
 use lib.ListN.{length}
 use denote.Ref.{now}
 use Rattle.frame.specs.Parts.{fieldIn}
+use Rattle.frame.specs.Rules.{unlimited}
 use Rattle.marshal.proofs.Lengths.{field-inside}
 use Rattle.marshal.proofs.Steps.{field-room, data-room, tpm2b-put}
 use borrow.Author.Needs.{needs}
@@ -16,7 +17,7 @@ cast-to c = search needs
 add-to : tie.Need-add-to
 add-to c =
     let a = c .before .before .before .args in
-    let inside = field-inside (length (now (a .lent))) (a .f) (c .before .before .before .pre .0) in
+    let inside = field-inside unlimited (length (now (a .lent))) (a .f) (c .before .before .before .pre .0) .1 in
     omega arith
 
 put-u16-requires : tie.Need-put-u16-requires
@@ -33,7 +34,7 @@ part-put-start c = search needs
 part-put-end : tie.Need-part-put-end
 part-put-end c =
     let a = c .before .before .before .before .before .before .before .args in
-    let inside = field-inside (length (now (a .lent))) (a .f) (c .before .before .before .before .before .before .before .pre .0) in
+    let inside = field-inside unlimited (length (now (a .lent))) (a .f) (c .before .before .before .before .before .before .before .pre .0) .1 in
     omega arith
 
 put-requires : tie.Need-put-requires

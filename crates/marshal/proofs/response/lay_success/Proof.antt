@@ -7,6 +7,7 @@ use denote.Ref.{now}
 use Rattle.frame.specs.declared.session.Session.{Session}
 use Rattle.frame.specs.Layout.{layoutEntries}
 use Rattle.frame.specs.Parts.{entriesIn}
+use Rattle.frame.specs.Rules.{unlimited}
 use Rattle.marshal.specs.Handed.{handed, entriesHanded, tagFor}
 use Rattle.marshal.proofs.Frames.{
   success-total,
@@ -41,7 +42,7 @@ put-header-requires c κs =
     let h = handed (now (a .handles)) (a .sessions) (now (a .lent)) (now (a .parameters)) in
     let e = layoutEntries 0 (entriesHanded h) in
     let tag = tagFor (a .sessions .count) in
-    let whole = b .pre .total-is ∙ success-total h (b .pre .there) tag in
+    let whole = b .pre .total-is ∙ success-total unlimited h (b .pre .there) tag in
     header-room tag 0 (a .total) (now (a .handles)) (now (a .parameters)) e (now (a .room)) whole (b .pre .room-for)
 
 put-requires : tie.Need-put-requires
@@ -51,7 +52,7 @@ put-requires c κs =
     let h = handed (now (a .handles)) (a .sessions) (now (a .lent)) (now (a .parameters)) in
     let e = layoutEntries 0 (entriesHanded h) in
     let tag = tagFor (a .sessions .count) in
-    let whole = b .pre .total-is ∙ success-total h (b .pre .there) tag in
+    let whole = b .pre .total-is ∙ success-total unlimited h (b .pre .there) tag in
     handles-room tag 0 (a .total) (now (a .handles)) (now (a .parameters)) e (now (a .room)) whole (b .pre .room-for) (rw (c .before .before .before .before .before .tag-for .ensures) at (c .before .before .before .put-header .ensures))
 
 put-requires-2 : tie.Need-put-requires-2
@@ -61,7 +62,7 @@ put-requires-2 c κs =
     let h = handed (now (a .handles)) (a .sessions) (now (a .lent)) (now (a .parameters)) in
     let e = layoutEntries 0 (entriesHanded h) in
     let tag = tagFor (a .sessions .count) in
-    let whole = b .pre .total-is ∙ success-total h (b .pre .there) tag in
+    let whole = b .pre .total-is ∙ success-total unlimited h (b .pre .there) tag in
     let none : e ≡ [] = ap (λ (es : List Session). layoutEntries 0 (entriesIn (now (a .lent)) es)) (entries-none (a .sessions) (c .before .if1 .taken)) in
     rw (none, append-nil) at (plain-room tag 0 (a .total) (now (a .handles)) (now (a .parameters)) e (now (a .room)) whole (b .pre .room-for) (rw (c .before .before .before .before .before .before .before .before .before .before .before .tag-for .ensures) at (c .before .before .before .before .before .before .before .before .before .put-header .ensures)) (c .before .before .before .before .before .put .ensures) (plain-tag (b .pre .tag-is) (c .before .if1 .taken)))
 
@@ -75,9 +76,9 @@ returns c =
     let h = handed (now (a .handles)) (a .sessions) (now (a .lent)) (now (a .parameters)) in
     let e = layoutEntries 0 (entriesHanded h) in
     let tag = tagFor (a .sessions .count) in
-    let whole = b .pre .total-is ∙ success-total h (b .pre .there) tag in
+    let whole = b .pre .total-is ∙ success-total unlimited h (b .pre .there) tag in
     let none : e ≡ [] = ap (λ (es : List Session). layoutEntries 0 (entriesIn (now (a .lent)) es)) (entries-none (a .sessions) (c .before .before .before .before .if1 .taken)) in
-    rw (success-layout h (b .pre .there))
+    rw (success-layout h)
     (plain-put tag 0 (a .total) (now (a .handles)) (now (a .parameters)) e (now (a .room)) whole (b .pre .room-for) (rw (c .before .before .before .before .before .before .before .before .before .before .before .before .before .before .tag-for .ensures) at (c .before .before .before .before .before .before .before .before .before .before .before .before .put-header .ensures)) (c .before .before .before .before .before .before .before .before .put .ensures) (plain-tag (b .pre .tag-is) (c .before .before .before .before .if1 .taken)) {end = c .before .before .put2 .result} (rw (none, append-nil) (c .before .before .put2 .ensures)))
 
 cast-put-u32 : tie.Need-cast-put-u32
@@ -87,7 +88,7 @@ cast-put-u32 c =
     let h = handed (now (a .handles)) (a .sessions) (now (a .lent)) (now (a .parameters)) in
     let e = layoutEntries 0 (entriesHanded h) in
     let tag = tagFor (a .sessions .count) in
-    let whole = b .pre .total-is ∙ success-total h (b .pre .there) tag in
+    let whole = b .pre .total-is ∙ success-total unlimited h (b .pre .there) tag in
     let signed = sessions-tag (b .pre .tag-is) (c .if1 .left) in
     let sum = sizes tag 0 (a .total) (now (a .handles)) (now (a .parameters)) e (now (a .room)) whole (b .pre .room-for) (rw (c .before .before .before .before .before .before .before .before .before .before .tag-for .ensures) at (c .before .before .before .before .before .before .before .before .put-header .ensures)) (c .before .before .before .before .put .ensures) signed in
     let small = b .pre .small in
@@ -100,7 +101,7 @@ put-u32-requires c κs =
     let h = handed (now (a .handles)) (a .sessions) (now (a .lent)) (now (a .parameters)) in
     let e = layoutEntries 0 (entriesHanded h) in
     let tag = tagFor (a .sessions .count) in
-    let whole = b .pre .total-is ∙ success-total h (b .pre .there) tag in
+    let whole = b .pre .total-is ∙ success-total unlimited h (b .pre .there) tag in
     size-room tag 0 (a .total) (now (a .handles)) (now (a .parameters)) e (now (a .room)) whole (b .pre .room-for) (rw (c .before .before .before .before .before .before .before .before .before .before .before .tag-for .ensures) at (c .before .before .before .before .before .before .before .before .before .put-header .ensures)) (c .before .before .before .before .before .put .ensures) (sessions-tag (b .pre .tag-is) (c .before .if1 .left))
 
 put-requires-3 : tie.Need-put-requires-3
@@ -110,7 +111,7 @@ put-requires-3 c κs =
     let h = handed (now (a .handles)) (a .sessions) (now (a .lent)) (now (a .parameters)) in
     let e = layoutEntries 0 (entriesHanded h) in
     let tag = tagFor (a .sessions .count) in
-    let whole = b .pre .total-is ∙ success-total h (b .pre .there) tag in
+    let whole = b .pre .total-is ∙ success-total unlimited h (b .pre .there) tag in
     sized-room tag 0 (a .total) (now (a .handles)) (now (a .parameters)) e (now (a .room)) whole (b .pre .room-for) (rw (c .before .before .before .before .before .before .before .before .before .before .before .before .before .before .before .tag-for .ensures) at (c .before .before .before .before .before .before .before .before .before .before .before .before .before .put-header .ensures)) (c .before .before .before .before .before .before .before .before .before .put .ensures) (sessions-tag (b .pre .tag-is) (c .before .before .before .before .before .if1 .left)) (c .before .before .before .put-u32 .ensures)
 
 put-entries-requires : tie.Need-put-entries-requires
@@ -120,7 +121,7 @@ put-entries-requires c κs =
     let h = handed (now (a .handles)) (a .sessions) (now (a .lent)) (now (a .parameters)) in
     let e = layoutEntries 0 (entriesHanded h) in
     let tag = tagFor (a .sessions .count) in
-    let whole = b .pre .total-is ∙ success-total h (b .pre .there) tag in
+    let whole = b .pre .total-is ∙ success-total unlimited h (b .pre .there) tag in
     (b .pre .there, last-room tag 0 (a .total) (now (a .handles)) (now (a .parameters)) e (now (a .room)) whole (b .pre .room-for) (rw (c .before .before .before .before .before .before .before .before .before .before .before .before .before .before .before .before .before .before .before .tag-for .ensures) at (c .before .before .before .before .before .before .before .before .before .before .before .before .before .before .before .before .before .put-header .ensures)) (c .before .before .before .before .before .before .before .before .before .before .before .before .before .put .ensures) (sessions-tag (b .pre .tag-is) (c .before .before .before .before .before .before .before .before .before .if1 .left)) (c .before .before .before .before .before .before .before .put-u32 .ensures) (c .before .before .before .put3 .ensures))
 
 same-length-2 : tie.Need-same-length-2
@@ -133,8 +134,8 @@ returns-2 c =
     let h = handed (now (a .handles)) (a .sessions) (now (a .lent)) (now (a .parameters)) in
     let e = layoutEntries 0 (entriesHanded h) in
     let tag = tagFor (a .sessions .count) in
-    let whole = b .pre .total-is ∙ success-total h (b .pre .there) tag in
-    rw (success-layout h (b .pre .there))
+    let whole = b .pre .total-is ∙ success-total unlimited h (b .pre .there) tag in
+    rw (success-layout h)
     (sized-put tag 0 (a .total) (now (a .handles)) (now (a .parameters)) e (now (a .room)) whole (b .pre .room-for) (rw (c .before .before .before .before .before .before .before .before .before .before .before .before .before .before .before .before .before .before .before .before .before .before .tag-for .ensures) at (c .before .before .before .before .before .before .before .before .before .before .before .before .before .before .before .before .before .before .before .before .put-header .ensures)) (c .before .before .before .before .before .before .before .before .before .before .before .before .before .before .before .before .put .ensures) (sessions-tag (b .pre .tag-is) (c .before .before .before .before .before .before .before .before .before .before .before .before .if1 .left)) (c .before .before .before .before .before .before .before .before .before .before .put-u32 .ensures) (c .before .before .before .before .before .before .put3 .ensures) (c .before .before .put-entries .ensures))
 
 pub lay-success-spec : {M : Type 1} → statement M

@@ -7,9 +7,10 @@ use lib.ListN.{length}
 use denote.Ref.{now}
 use Rattle.base.specs.Answer.{saidCount}
 use Rattle.base.proofs.Answers.{learnt}
+use Rattle.frame.proofs.Divisions.{longest-below}
 use Rattle.marshal.specs.Handed.{handed}
 use Rattle.base.specs.Field.{laid}
-use Rattle.marshal.specs.Mode.{asked, bookFor}
+use Rattle.marshal.specs.Mode.{readingOf, asked, bookFor}
 use Rattle.marshal.specs.Write.{writeResponse}
 use Rattle.marshal.proofs.Frames.{headerOf, error-layout}
 use Rattle.marshal.proofs.Writers.{success-ready, error-ready, room-refused, room-written}
@@ -37,7 +38,7 @@ lay-success-requires : tie.Need-lay-success-requires
 lay-success-requires c κs =
     let a = c .before .before .before .before .before .before .before .before .before .before .before .args in
     let h = handed (now (a .handles)) (a .sessions) (now (a .lent)) (now (a .parameters)) in
-    success-ready (bookFor (a .rules)) (asked (a .rules)) (a .cc .0) (a .rc .0) h (length (now (a .room))) (c .before .if1 .taken) (learnt saidCount (c .before .before .before .before .judged .given .1) (c .before .before .before .before .before .before .judge-response .ensures)) .0
+    success-ready (bookFor (a .rules)) (asked (a .rules)) (a .cc .0) (a .rc .0) h (length (now (a .room))) (longest-below (readingOf (a .rules .mode))) (c .before .if1 .taken) (learnt saidCount (c .before .before .before .before .judged .given .1) (c .before .before .before .before .before .before .judge-response .ensures)) .0
 
 same-length : tie.Need-same-length
 same-length c = search needs
@@ -47,7 +48,7 @@ returns-2 c =
     let a = c .before .before .before .before .before .before .before .before .before .before .before .before .before .before .args in
     let h = handed (now (a .handles)) (a .sessions) (now (a .lent)) (now (a .parameters)) in
     let said = learnt saidCount (c .before .before .before .before .before .before .before .judged .given .1) (c .before .before .before .before .before .before .before .before .before .judge-response .ensures) in
-    (said, room-written (now (a .room)) (success-ready (bookFor (a .rules)) (asked (a .rules)) (a .cc .0) (a .rc .0) h (length (now (a .room))) (c .before .before .before .before .if1 .taken) said .1) (c .before .before .lay-success .ensures))
+    (said, room-written (now (a .room)) (success-ready (bookFor (a .rules)) (asked (a .rules)) (a .cc .0) (a .rc .0) h (length (now (a .room))) (longest-below (readingOf (a .rules .mode))) (c .before .before .before .before .if1 .taken) said .1) (c .before .before .lay-success .ensures))
 
 error-tag-requires : tie.Need-error-tag-requires
 error-tag-requires c κs = search needs

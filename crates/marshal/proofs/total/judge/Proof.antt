@@ -18,14 +18,14 @@ mul-needed : tie.Need-mul-needed
 mul-needed c = search needs
 
 returns : tie.Need-returns
-returns c width h hs es ps =
+returns c limit width h hs es ps =
     let a = c .before .args in
-    ap (λ (n : ℕ). refuses (1 ∷ 0 ∷ (4 * a .count) ∷ n ∷ [])) (sym hs) ∙ few-handles width (a .tag) (a .count) h (a .room) (rw hs (c .if1 .taken))
+    ap (λ (n : ℕ). refuses (1 ∷ 0 ∷ (4 * a .count) ∷ n ∷ [])) (sym hs) ∙ few-handles limit width (a .tag) (a .count) h (a .room) (rw hs (c .if1 .taken))
 
 returns-2 : tie.Need-returns-2
-returns-2 c width h hs es ps =
+returns-2 c limit width h hs es ps =
     let a = c .before .before .args in
-    ap (λ (n : ℕ). refuses (2 ∷ (4 * a .count) ∷ (n - 4 * a .count) ∷ [])) (sym hs) ∙ many-handles width (a .tag) (a .count) h (a .room) (rw hs (c .if2 .taken))
+    ap (λ (n : ℕ). refuses (2 ∷ (4 * a .count) ∷ (n - 4 * a .count) ∷ [])) (sym hs) ∙ many-handles limit width (a .tag) (a .count) h (a .room) (rw hs (c .if2 .taken))
 
 enum-known-entries : tie.Need-enum-known-entries
 enum-known-entries c = search needs
@@ -34,10 +34,10 @@ enum-told : tie.Need-enum-told
 enum-told c = search needs
 
 returns-3 : tie.Need-returns-3
-returns-3 c width h hs es ps =
+returns-3 c limit width h hs es ps =
     let a = c .before .before .before .before .args in
     let count : length (h .handles) ≡ 4 * a .count = omega arith in
-    ap saidCount (c .enum-told .given .1) ∙ field-missing width (a .tag) (a .count) h (a .room) count (learnt saidCount (c .enum-told .given .1) es)
+    ap saidCount (c .enum-told .given .1) ∙ field-missing limit width (a .tag) (a .count) h (a .room) count (learnt saidCount (c .enum-told .given .1) es)
 
 add-capped-sum : tie.Need-add-capped-sum
 add-capped-sum c = search needs
@@ -65,22 +65,22 @@ capped-sum-requires : tie.Need-capped-sum-requires
 capped-sum-requires c κs = search needs
 
 returns-4 : tie.Need-returns-4
-returns-4 c width h hs es ps =
+returns-4 c limit width h hs es ps =
     let a = c .before .before .before .before .before .before .before .before .args in
     let count : length (h .handles) ≡ 4 * a .count = omega arith in
     let found = learnt saidCount (c .before .before .before .before .entries .given .1) es in
-    too-large width (a .tag) (a .count) h (a .room) count found (sum-of (a .tag) h (4 * a .count) (c .before .before .before .before .entries .given .0 .0) (c .before .capped-sum .ensures) (c .before .before .size-field .ensures) ps) (c .if3 .taken)
+    too-large limit width (a .tag) (a .count) h (a .room) count found (sum-of (a .tag) h (4 * a .count) (c .before .before .before .before .entries .given .0 .0) (c .before .capped-sum .ensures) (c .before .before .size-field .ensures) ps) (c .if3 .taken)
 
 fits-requires : tie.Need-fits-requires
 fits-requires c κs = search needs
 
 returns-5 : tie.Need-returns-5
-returns-5 c width h hs es ps =
+returns-5 c limit width h hs es ps =
     let a = c .before .before .before .before .before .before .before .before .before .args in
     let count : length (h .handles) ≡ 4 * a .count = omega arith in
     let found = learnt saidCount (c .before .before .before .before .before .entries .given .1) es in
     c .fits2 .ensures
-    ∙ total-fits width (a .tag) (a .count) h (a .room) count found (sum-of (a .tag) h (4 * a .count) (c .before .before .before .before .before .entries .given .0 .0) (c .before .before .capped-sum .ensures) (c .before .before .before .size-field .ensures) ps) (c .before .if3 .left)
+    ∙ total-fits limit width (a .tag) (a .count) h (a .room) count found (sum-of (a .tag) h (4 * a .count) (c .before .before .before .before .before .entries .given .0 .0) (c .before .before .capped-sum .ensures) (c .before .before .before .size-field .ensures) ps) (c .before .if3 .left)
 
 pub judge-spec : {M : Type 1} → statement M
 judge-spec =
