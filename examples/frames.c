@@ -153,6 +153,37 @@ static void write_array(void) {
     say_refusal(number, out);
 }
 
+/* A nonce as long as the standard rules allow, written, read, and copied to a buffer of that size; and one byte more. */
+static void write_longest(void) {
+    uint64_t out[SKEIN_NUMBERS] = {0};
+    uint8_t lent[SKEIN_MAX_DIGEST_SIZE + 1];
+    uint8_t kept[SKEIN_MAX_DIGEST_SIZE] = {0};
+    uint8_t room[128];
+    struct skein_sessions sessions;
+    memset(&sessions, 0, sizeof sessions);
+    memset(lent, 0xA5, sizeof lent);
+    sessions.count = 1;
+    sessions.first.handle = 0x40000009;
+    sessions.first.nonce.size = SKEIN_MAX_DIGEST_SIZE;
+    printf("a nonce as long as the standard rules allow, and then longer\n");
+    uint32_t number = skein_command_write(SKEIN_RULES_STANDARD, SKEIN_SESSIONS, 0x15E, command + SKEIN_HEADER, 4, sessions,
+                                          lent, sizeof lent, NULL, 0, room, sizeof room, out);
+    struct skein_command_parts read =
+        skein_command_parts(SKEIN_RULES_STANDARD, room, number ? 0 : (size_t)out[SKEIN_FIRST], out);
+    /* no size is tested: by these rules each fits, and of a refused frame it is 0 */
+    memcpy(kept, room + read.command.sessions.first.nonce.at, read.command.sessions.first.nonce.size);
+    printf("  %d bytes are copied\n", read.command.sessions.first.nonce.size);
+    if (memcmp(kept, lent, sizeof kept)) {
+        printf("  NOT COPIED\n");
+        faults++;
+    }
+
+    sessions.first.nonce.size++;
+    number = skein_command_write(SKEIN_RULES_STANDARD, SKEIN_SESSIONS, 0x15E, command + SKEIN_HEADER, 4, sessions, lent,
+                                 sizeof lent, NULL, 0, room, sizeof room, out);
+    say_refusal(number, out);
+}
+
 /* Bytes that start with a command: where it stands, and where what is behind it. */
 static void split(const uint8_t *s, size_t len) {
     uint64_t out[SKEIN_NUMBERS] = {0};
@@ -172,6 +203,7 @@ int main(void) {
     read_response(SKEIN_RULES_STANDARD, 0x17B, response, sizeof response);
     write_own();
     write_array();
+    write_longest();
 
     memcpy(both, command, sizeof command);
     memcpy(both + sizeof command, response, sizeof response);

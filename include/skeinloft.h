@@ -45,7 +45,7 @@ extern "C" {
 #endif
 
 /* Rises where a call or a struct changes its form or its meaning. */
-#define SKEIN_VERSION 2
+#define SKEIN_VERSION 3
 
 /* ---- numbers and places */
 
@@ -66,12 +66,13 @@ enum skein_refusal {
     SKEIN_NO_SUCH_RULES = 101    /* 0, rules */
 };
 
-/* The rules by which a frame is judged or written. They differ in responses under the tag 0x00C4 alone, which is for the answer
-   to a bad tag: where a TPM does not understand a command's tag it answers 00C4 0000000A 0000001E, TPM_ST_RSP_COMMAND and
-   TPM_RC_BAD_TAG (Part 2, TPM_ST). */
+/* The rules by which a frame is judged or written. They differ in two things:
+   - in responses under the tag 0x00C4, which is for the answer to a bad tag: where a TPM does not understand a command's tag it
+     answers 00C4 0000000A 0000001E, TPM_ST_RSP_COMMAND and TPM_RC_BAD_TAG (Part 2, TPM_ST);
+   - in nonces and HMACs of more than 64 bytes: no digest is longer (Part 2, TPMU_HA). */
 enum skein_rules {
-    SKEIN_RULES_RUST = 0,            /* the Rust's, of tpm2-protocol: that answer is refused 3(0,0x00C4) */
-    SKEIN_RULES_STANDARD = 1,        /* the Library's: that answer passes, to every command of the table */
+    SKEIN_RULES_RUST = 0,            /* the Rust's, of tpm2-protocol: that answer is refused 3(0,0x00C4), and those pass */
+    SKEIN_RULES_STANDARD = 1,        /* the Library's: that answer passes, to every command of the table, and those are refused */
     SKEIN_RULES_STANDARD_BAD_TAG = 2 /* for the writers of responses alone: that answer is asked for */
 };
 
@@ -109,8 +110,9 @@ enum skein_kind {
 
 enum {
     SKEIN_MAX_SESSIONS = 3,
-    SKEIN_HEADER = 10,      /* bytes of a frame's header: where its handles start */
-    SKEIN_BUFFER64 = 64,    /* bytes of the fixed buffers' data */
+    SKEIN_MAX_DIGEST_SIZE = 64, /* bytes of a nonce or an HMAC, by the standard rules */
+    SKEIN_HEADER = 10,          /* bytes of a frame's header: where its handles start */
+    SKEIN_BUFFER64 = 64,        /* bytes of the fixed buffers' data */
     SKEIN_BUFFER1024 = 1024
 };
 
@@ -122,7 +124,8 @@ struct skein_span {
     size_t to;
 };
 
-/* A nonce or an HMAC: `size` bytes from the place `at` on. */
+/* A nonce or an HMAC: `size` bytes from the place `at` on. One that is read lies within the frame, and by the standard rules
+   `size` is at most SKEIN_MAX_DIGEST_SIZE: a buffer of so many bytes takes it. By the Rust's it may be 65,535. */
 struct skein_field {
     size_t at;
     uint16_t size;
@@ -201,7 +204,9 @@ SKEIN_HOLDS(skein_size_of_response_parts, sizeof(struct skein_response_parts) ==
    a command      4(6,cc)  1(10,handle bytes,left)
    its area       1(place,4,left)  1(place,size,left)
    its entries    6(place,3,4)  1(place,needed,left)
-   `_cast` goes up to the area's size, `_validate` and `_parts` check all. */
+   nonce or HMAC  1(place,2,left)  8(place,64,size)  1(place,wire,left)
+   The place of a nonce or an HMAC is that of its size, and 8 is of the standard rules alone. `_cast` goes up to the area's size,
+   `_validate` and `_parts` check all. */
 
 /* Checks a command whole. Gives nothing. */
 uint32_t skein_command_validate(uint32_t rules, const uint8_t *s, size_t len, uint64_t out[8]);
@@ -230,8 +235,9 @@ uint32_t skein_command_set_cc(uint32_t rules, uint32_t cc, uint8_t *s, size_t le
 /* Writes a command to the start of the room. Gives how many bytes that took; the room behind them stays as it was.
    `lent` are the bytes that the places in `sessions` count in: of a frame that was read, the frame.
    Refuses 3(0,tag) also where tag and sessions do not go together, 6(0,3,count), 4(0,cc), handle bytes that are short
-   1(0,due,given) or too many 2(due,given-due), a nonce or an HMAC that ends behind `lent` 1(at,size,left), a total of more than
-   32 bits 7(0,total), room too short 9(0,total,room_len). */
+   1(0,due,given) or too many 2(due,given-due), a total of more than 32 bits 7(0,total), room too short 9(0,total,room_len).
+   Before the total, record by record and the nonce before the HMAC: one that is too long by the standard rules 8(0,64,size), one
+   that ends behind `lent` 1(at,size,left). */
 uint32_t skein_command_write(uint32_t rules, uint16_t tag, uint32_t cc, const uint8_t *handles, size_t handles_len,
                              struct skein_sessions sessions, const uint8_t *lent, size_t lent_len, const uint8_t *parameters,
                              size_t parameters_len, uint8_t *room, size_t room_len, uint64_t out[8]);

@@ -29,7 +29,8 @@ tag 00C4, which no command has, it is a response and is judged whole.
                         code (0x17B)
   --reading READING     standard, as without this option, or rust, as the
                         crate tpm2-protocol reads: it refuses what a TPM
-                        answers to a command whose tag it did not understand
+                        answers to a command whose tag it did not understand,
+                        and takes nonces and HMACs of more than 64 bytes
 
 The status is 0 where every frame passes, 1 where one is refused or a line
 has none, 2 where the words are wrong or FILE cannot be read.

@@ -1,6 +1,6 @@
 //! What a frame is: the judgement of the library, and the parts of a frame that passes, each with its place and its meaning.
 
-use crate::text::count;
+use crate::text::{count, short};
 use skeinloft::{
     Areas, Reading, Refusal, ResponseParts, Rules, Sessions, TpmCc, TpmCommand, TpmRc, TpmResponse, TpmRh, TpmSt,
     TpmsAuth,
@@ -27,13 +27,13 @@ pub struct Seen<'a> {
     /// What had to be assumed, in words.
     pub assumed: Option<Cow<'static, str>>,
     /// What else there is to say of it.
-    pub notes: &'static [Note],
+    pub notes: Vec<Note>,
     /// Its parts in their order, or why it is refused.
     pub verdict: Result<Vec<Part>, Refusal>,
 }
 
 /// Something to say: what it is, and its words.
-pub type Note = (&'static str, &'static str);
+pub type Note = (&'static str, Cow<'static, str>);
 
 #[derive(Clone, Copy, Debug, PartialEq, Eq)]
 pub enum Kind {
@@ -74,24 +74,32 @@ const NO_COMMAND_TAG: &str =
 
 /// What a TPM answers to a command whose tag it does not understand (Part 2, TPM_ST).
 const BAD_TAG: [u8; 10] = [0x00, 0xC4, 0, 0, 0, 10, 0, 0, 0, 0x1E];
-const ADVICE: Note = (
-    "advice",
-    "the command before it reached the TPM mangled: look at that command's first two bytes as they were sent (8001 or 8002 \
-     is right) and at the link; the TPM is fine and needs no reset",
-);
-const BAD_TAG_PASSES: &[Note] = &[
-    (
-        "meaning",
-        "the TPM's answer to a command whose tag it did not understand; it passes in the standard reading alone",
-    ),
-    ADVICE,
-];
-const BAD_TAG_REFUSED: &[Note] =
-    &[("meaning", "the TPM's answer to a command whose tag it did not understand"), ADVICE];
-const BAD_TAG_HINT: &[Note] = &[("hint", "the standard reading knows this answer: --reading standard")];
+const BAD_TAG_PASSES: &str =
+    "the TPM's answer to a command whose tag it did not understand; it passes in the standard reading alone";
+const BAD_TAG_REFUSED: &str = "the TPM's answer to a command whose tag it did not understand";
+const BAD_TAG_ADVICE: &str = "the command before it reached the TPM mangled: look at that command's first two bytes as they \
+                              were sent (8001 or 8002 is right) and at the link; the TPM is fine and needs no reset";
+const BAD_TAG_HINT: &str = "the standard reading knows this answer: --reading standard";
+
+/// Of a frame with a long nonce or HMAC, where the rust reading passes it and where it does not.
+const WRITTEN_LONG: &str = "all else of its entries fits, so it was most likely written so: look at what wrote it, and keep it \
+                            from software that copies nonces and HMACs to 64 bytes";
+const MANGLED: &str = "its entries fit in neither reading, so it was most likely mangled: look at its bytes as they were sent \
+                       and at the link";
 
 /// Looks at a frame.
 pub fn look(rules: Rules, bytes: &[u8], role: Role) -> Seen<'_> {
+    let seen = take(rules, bytes, role);
+    match seen.verdict {
+        Err(Refusal::TooManyBytes { offset, limit, actual }) => {
+            Seen { notes: long_field(bytes, seen.kind, offset, limit, actual).unwrap_or_default(), ..seen }
+        }
+        _ => seen,
+    }
+}
+
+/// Takes a frame for what it is to be.
+fn take(rules: Rules, bytes: &[u8], role: Role) -> Seen<'_> {
     let tag = bytes.first_chunk().map(|&field| TpmSt(u16::from_be_bytes(field)));
     match role {
         Role::Command => command(rules, bytes),
@@ -127,7 +135,7 @@ pub fn code(bytes: &[u8]) -> Option<u32> {
 
 fn command(rules: Rules, bytes: &[u8]) -> Seen<'_> {
     let name = code(bytes).and_then(|code| TpmCc(code).name()).map(str::to_owned);
-    Seen { bytes, kind: Kind::Command, name, assumed: None, notes: &[], verdict: command_parts(rules, bytes) }
+    Seen { bytes, kind: Kind::Command, name, assumed: None, notes: Vec::new(), verdict: command_parts(rules, bytes) }
 }
 
 fn command_parts(rules: Rules, bytes: &[u8]) -> Result<Vec<Part>, Refusal> {
@@ -148,11 +156,11 @@ fn command_parts(rules: Rules, bytes: &[u8]) -> Result<Vec<Part>, Refusal> {
 fn any_response(rules: Rules, bytes: &[u8], kind: Kind, verdict: Result<Vec<Part>, Refusal>) -> Seen<'_> {
     let name = code(bytes).and_then(|code| TpmRc::try_from(code).ok()).map(|rc| rc.to_string());
     let notes = match (rules.reading, &verdict) {
-        _ if bytes != BAD_TAG => &[],
-        (Reading::Standard, Ok(_)) => BAD_TAG_PASSES,
+        _ if bytes != BAD_TAG => Vec::new(),
+        (Reading::Standard, Ok(_)) => vec![("meaning", BAD_TAG_PASSES.into()), ("advice", BAD_TAG_ADVICE.into())],
         // the command has no row
-        (Reading::Standard, Err(_)) => BAD_TAG_REFUSED,
-        (Reading::Rust, _) => BAD_TAG_HINT,
+        (Reading::Standard, Err(_)) => vec![("meaning", BAD_TAG_REFUSED.into()), ("advice", BAD_TAG_ADVICE.into())],
+        (Reading::Rust, _) => vec![("hint", BAD_TAG_HINT.into())],
     };
     Seen { bytes, kind, name, assumed: None, notes, verdict }
 }
@@ -195,6 +203,50 @@ fn response<'a>(rules: Rules, bytes: &'a [u8], assumed: &'static str) -> Seen<'a
         Ok(parts)
     };
     Seen { assumed: Some(assumed.into()), ..any_response(rules, bytes, Kind::Response, parts()) }
+}
+
+/// What there is to say of a long nonce or HMAC, by the place of its size: which one it is, what to do, and what the rust
+/// reading says of the frame.
+fn long_field(bytes: &[u8], kind: Kind, offset: usize, limit: usize, actual: usize) -> Option<Vec<Note>> {
+    let field = field_at(bytes, kind, offset)?;
+    let meaning = format!(
+        "the {field} is longer than any digest: its size at byte {offset} says {}, and the limit is {limit}",
+        count(actual, "byte")
+    );
+    let (advice, there) = match sessions(Rules::RUST, bytes, kind) {
+        Ok(_) => (WRITTEN_LONG, "passes".to_owned()),
+        Err(refusal) => (MANGLED, format!("is refused for something else, {}", short(&refusal))),
+    };
+    let hint = format!("the rust reading has no such limit: with --reading rust the frame {there}");
+    Some(vec![("meaning", meaning.into()), ("advice", advice.into()), ("hint", hint.into())])
+}
+
+/// Which nonce or HMAC has its size at a place. The frame passes that ends behind an empty one in its stead: behind an HMAC at
+/// once, and behind a nonce with an attribute byte and an empty HMAC.
+fn field_at(bytes: &[u8], kind: Kind, offset: usize) -> Option<String> {
+    [("HMAC", 2), ("nonce", 5)].into_iter().find_map(|(name, zeros)| {
+        let mut ended = bytes[..offset].to_vec();
+        ended.resize(offset + zeros, 0);
+        let len = ended.len();
+        ended[2..6].copy_from_slice(&(len as u32).to_be_bytes());
+        if kind == Kind::Command {
+            // their size is before the entries
+            let from = place(bytes, TpmCommand::cast(Rules::RUST, bytes).ok()?.auth_area().ok()?).start;
+            ended[from - 4..from].copy_from_slice(&((len - from) as u32).to_be_bytes());
+        }
+        let sessions = sessions(Rules::STANDARD, &ended, kind).ok()?;
+        let is_password = |entry: TpmsAuth| name == "HMAC" && TpmRh(entry.session_handle) == TpmRh::Pw;
+        let password = if sessions.iter().last().is_some_and(is_password) { ", a password," } else { "" };
+        Some(format!("{name} of session {}{password}", sessions.len()))
+    })
+}
+
+/// The sessions of a frame of this kind.
+fn sessions(rules: Rules, bytes: &[u8], kind: Kind) -> Result<Sessions<'_>, Refusal> {
+    match kind {
+        Kind::Answer(cc) => Ok(TpmResponse::cast(rules, bytes)?.parts(cc)?.sessions),
+        _ => Ok(TpmCommand::cast(rules, bytes)?.parts()?.sessions),
+    }
 }
 
 fn header(tag: TpmSt, len: usize, code: String) -> Vec<Part> {

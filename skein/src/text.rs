@@ -82,10 +82,15 @@ fn show_bytes(bytes: &[u8], meaning: &str, out: &mut String) -> fmt::Result {
     Ok(())
 }
 
+/// The refusal's name, its number and its fields.
+pub fn short(refusal: &Refusal) -> String {
+    let fields: Vec<String> = refusal.fields().map(|(_, value)| value.to_string()).collect();
+    format!("{} {}({})", refusal.name(), refusal.number(), fields.join(","))
+}
+
 /// The refusal in words, and the bytes around its place with a mark under it.
 fn show_refusal(seen: &Seen, refusal: &Refusal, out: &mut String) -> fmt::Result {
-    let fields: Vec<String> = refusal.fields().map(|(_, value)| value.to_string()).collect();
-    writeln!(out, "  {} {}({}): {refusal}", refusal.name(), refusal.number(), fields.join(","))?;
+    writeln!(out, "  {}: {refusal}", short(refusal))?;
     if matches!((seen.kind, refusal), (Kind::Answer(_), Refusal::InvalidCc { .. })) {
         return writeln!(out, "  it is the code of the command that this answers");
     }

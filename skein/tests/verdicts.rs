@@ -158,8 +158,13 @@ fn check_row(rules: u32, words: &[&str], row: &str) {
     assert_eq!(shown(command, hex), [theirs], "{row}");
 }
 
-/// What `skein` tells of frames on its standard input.
-fn shown(mut command: Command, hex: &str) -> Vec<Said> {
+/// The verdicts of `skein` on frames on its standard input.
+fn shown(command: Command, hex: &str) -> Vec<Said> {
+    told(&written(command, hex))
+}
+
+/// What it writes of them.
+fn written(mut command: Command, hex: &str) -> Vec<u8> {
     let mut run = command.stdin(Stdio::piped()).stdout(Stdio::piped()).spawn().expect("skein runs");
     let mut input = run.stdin.take().expect("a pipe");
     // it writes before it has read all
@@ -167,7 +172,7 @@ fn shown(mut command: Command, hex: &str) -> Vec<Said> {
         both.spawn(move || input.write_all(hex.as_bytes()).expect("skein reads"));
         run.wait_with_output().expect("skein ends")
     });
-    told(&run.stdout)
+    run.stdout
 }
 
 /// Frames that stand alone under the tag of the answer to a bad tag are judged whole, as answers to some command.
@@ -183,5 +188,52 @@ fn under_the_tag_of_the_answer_to_a_bad_tag() {
         let due: &[&str] = if rules == calls::STANDARD { &["00c40000000a0000001e"] } else { &[] };
         assert!(passing.eq(due.iter().copied()));
         assert_eq!(shown(skein(words), &frames.join("\n")), theirs);
+    }
+}
+
+/// A command with three entries, or a success response, of which one has a nonce or an HMAC of this size. Where fewer bytes
+/// are there, they are the last.
+fn with_field(command: bool, (before, hmac): (usize, bool), size: usize, there: usize) -> String {
+    let handle = if command { "02000000" } else { "" };
+    let entry = format!("{handle}000106010000");
+    let (up_to, behind) = if hmac { ("00010601", "") } else { ("", "010000") };
+    let rest = if there == size { behind.to_owned() + &entry.repeat(2 - before) } else { String::new() };
+    let entries = format!("{}{handle}{up_to}{size:04x}{}{rest}", entry.repeat(before), "05".repeat(there));
+    let len = entries.len() / 2;
+    if command {
+        format!("8002{:08x}0000015e80000000{len:08x}{entries}", 18 + len)
+    } else {
+        format!("8002{:08x}0000000000000000{entries}", 14 + len)
+    }
+}
+
+/// A nonce or an HMAC that is refused for its size is named, and so is what the rust reading says.
+#[test]
+fn long_fields_are_named() {
+    const UNSEAL: u32 = 0x15E;
+    for command in [true, false] {
+        let judged = |rules, hex: &str| {
+            said(|out| match command {
+                true => calls::command_validate(rules, &unhex(hex), out),
+                false => calls::response_validate(rules, UNSEAL, &unhex(hex), out),
+            })
+        };
+        let words: &[&str] = if command { &[] } else { &["--answers-to", "0x15e"] };
+        let places = (0..3).flat_map(|before| [(before, false), (before, true)]);
+        let sizes = [(64, 64), (65, 65), (300, 300), (65535, 65535), (64, 9), (65, 9), (65, 0)];
+        let cases: Vec<_> = places.flat_map(|place| sizes.map(|(size, there)| (place, size, there))).collect();
+        let frames: Vec<String> =
+            cases.iter().map(|&(place, size, there)| with_field(command, place, size, there)).collect();
+        let lines = String::from_utf8(written(skein(words), &frames.join("\n"))).expect("text");
+        assert_eq!(lines.lines().count(), cases.len());
+        for ((line, hex), ((before, hmac), size, there)) in lines.lines().zip(&frames).zip(cases) {
+            assert_eq!(one_told(line), judged(calls::STANDARD, hex), "{hex}");
+            let field = format!("the {} of session {} is longer", if hmac { "HMAC" } else { "nonce" }, before + 1);
+            assert_eq!(line.contains(&field), size > 64, "{line}");
+            let (rust, _) = judged(calls::RUST, hex);
+            assert_eq!(rust == 0, size == there, "{hex}");
+            assert_eq!(line.contains("rust the frame passes"), size > 64 && rust == 0, "{line}");
+            assert_eq!(line.contains("rust the frame is refused for something else"), size > 64 && rust != 0, "{line}");
+        }
     }
 }

@@ -183,7 +183,8 @@ impl<'a> TpmCommand<'a> {
     ///
     /// # Errors
     ///
-    /// A fourth entry, or an entry that is cut short.
+    /// A fourth entry, an entry that is cut short, or by the standard rules a nonce or an HMAC of more than
+    /// [`MAX_DIGEST_SIZE`](crate::MAX_DIGEST_SIZE) bytes, [`Refusal::TooManyBytes`] at the place of its size.
     ///
     /// ```
     /// use skeinloft::{Refusal, Rules, TpmCommand};
@@ -192,6 +193,13 @@ impl<'a> TpmCommand<'a> {
     /// let bytes = [0x80, 0x02, 0, 0, 0, 23, 0, 0, 0x01, 0x7B, 0, 0, 0, 7, 0x40, 0, 0, 9, 0, 0, 0, 0, 8];
     /// let refusal = TpmCommand::cast(Rules::STANDARD, &bytes)?.validate().unwrap_err();
     /// assert_eq!(refusal, Refusal::UnexpectedEnd { offset: 21, needed: 2, available: 0 });
+    ///
+    /// // a nonce of 65 bytes
+    /// let mut bytes = [0; 90];
+    /// bytes[..20].copy_from_slice(&[0x80, 0x02, 0, 0, 0, 90, 0, 0, 0x01, 0x7B, 0, 0, 0, 74, 0x40, 0, 0, 9, 0, 65]);
+    /// TpmCommand::cast(Rules::RUST, &bytes)?.validate()?;
+    /// let refusal = TpmCommand::cast(Rules::STANDARD, &bytes)?.validate().unwrap_err();
+    /// assert_eq!(refusal, Refusal::TooManyBytes { offset: 18, limit: 64, actual: 65 });
     /// # Ok::<(), Refusal>(())
     /// ```
     pub fn validate(&self) -> Result<(), Refusal> {
@@ -287,8 +295,9 @@ impl CommandParts<'_> {
     /// # Errors
     ///
     /// The first of: a tag that is no command's or does not go with the sessions, more than three sessions, a command
-    /// code that is none, handles that are not the command's in number, more bytes than a frame's size can say, room that is
-    /// too short. The room is then as it was.
+    /// code that is none, handles that are not the command's in number, by the standard rules a nonce or an HMAC of more than
+    /// [`MAX_DIGEST_SIZE`](crate::MAX_DIGEST_SIZE) bytes, more bytes than a frame's size can say, room that is too short. The
+    /// room is then as it was.
     ///
     /// ```
     /// use skeinloft::{Refusal, Rules, TpmCommand};
@@ -301,6 +310,25 @@ impl CommandParts<'_> {
     ///
     /// let refusal = parts.marshal(Rules::STANDARD, &mut room[1..]).unwrap_err();
     /// assert_eq!(refusal, Refusal::BufferOverflow { offset: 0, needed: 12, available: 11 });
+    /// # Ok::<(), Refusal>(())
+    /// ```
+    ///
+    /// ```
+    /// use skeinloft::{CommandParts, Refusal, Rules, Sessions, TpmCc, TpmSt, TpmsAuth};
+    ///
+    /// let mut scratch = [0; 65];
+    /// let entry = TpmsAuth { session_handle: 0x0200_0000, nonce: &[7; 65], ..TpmsAuth::default() };
+    /// let random = CommandParts {
+    ///     tag: TpmSt::Sessions,
+    ///     cc: TpmCc::GetRandom,
+    ///     handles: &[],
+    ///     sessions: Sessions::new(&[entry], &mut scratch)?,
+    ///     parameters: &[0, 8],
+    /// };
+    /// let mut room = [0; 90];
+    /// assert_eq!(random.marshal(Rules::RUST, &mut room)?, 90);
+    /// let refusal = random.marshal(Rules::STANDARD, &mut room).unwrap_err();
+    /// assert_eq!(refusal, Refusal::TooManyBytes { offset: 0, limit: 64, actual: 65 });
     /// # Ok::<(), Refusal>(())
     /// ```
     #[doc(alias = "tpm_marshal_command")]

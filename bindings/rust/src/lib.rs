@@ -76,7 +76,7 @@ pub use rc::{TpmRc, TpmRcIndex};
 pub use refusal::Refusal;
 pub use response::{ResponseParts, TpmResponse};
 pub use rh::TpmRh;
-pub use rules::{Reading, ResponseMode, Rules};
+pub use rules::{MAX_DIGEST_SIZE, Reading, ResponseMode, Rules};
 pub use session::{Sessions, TpmaSession, TpmsAuth};
 pub use st::TpmSt;
 pub use tpm2b::Tpm2b;

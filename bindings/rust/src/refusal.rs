@@ -179,7 +179,7 @@ refusals! {
         value: u64,
     } "a number too large at byte {offset}: {value}"
 
-    /// More bytes than the capacity.
+    /// More bytes than the capacity, or than a nonce or an HMAC may have.
     8 TooManyBytes {
         /// The place of the size.
         offset: usize,

@@ -141,7 +141,9 @@ impl<'a> TpmResponse<'a> {
     /// # Errors
     ///
     /// The first of: a command code that is none; of an error, the sessions tag or bytes behind the header; of success,
-    /// handles or parameters that are cut short, a fourth entry, an entry that is cut short.
+    /// handles or parameters that are cut short, a fourth entry, an entry that is cut short, or by the standard rules a nonce
+    /// or an HMAC of more than [`MAX_DIGEST_SIZE`](crate::MAX_DIGEST_SIZE) bytes, [`Refusal::TooManyBytes`] at the place of
+    /// its size.
     ///
     /// ```
     /// use skeinloft::{Refusal, Rules, TpmCc, TpmResponse};
@@ -150,6 +152,13 @@ impl<'a> TpmResponse<'a> {
     /// let response = TpmResponse::cast(Rules::STANDARD, &[0x80, 0x01, 0, 0, 0, 10, 0, 0, 0, 0])?;
     /// let refusal = response.validate(TpmCc::Load).unwrap_err();
     /// assert_eq!(refusal, Refusal::UnexpectedEnd { offset: 10, needed: 4, available: 0 });
+    ///
+    /// // a nonce of 65 bytes
+    /// let mut bytes = [0; 84];
+    /// bytes[..16].copy_from_slice(&[0x80, 0x02, 0, 0, 0, 84, 0, 0, 0, 0, 0, 0, 0, 0, 0, 65]);
+    /// TpmResponse::cast(Rules::RUST, &bytes)?.validate(TpmCc::Clear)?;
+    /// let refusal = TpmResponse::cast(Rules::STANDARD, &bytes)?.validate(TpmCc::Clear).unwrap_err();
+    /// assert_eq!(refusal, Refusal::TooManyBytes { offset: 14, limit: 64, actual: 65 });
     /// # Ok::<(), Refusal>(())
     /// ```
     pub fn validate(&self, cc: TpmCc) -> Result<(), Refusal> {
@@ -244,7 +253,8 @@ impl ResponseParts<'_> {
     ///
     /// The first of: more than three sessions, a command code that is none, a response code that does not read, sessions with
     /// a code that is not success, a code that does not go with the mode's tag, handles that are not the response's in
-    /// number, more bytes than a frame's size can say, room that is too short. The room is then as it was.
+    /// number, in the standard mode a nonce or an HMAC of more than [`MAX_DIGEST_SIZE`](crate::MAX_DIGEST_SIZE) bytes, more
+    /// bytes than a frame's size can say, room that is too short. The room is then as it was.
     ///
     /// ```
     /// use skeinloft::{Refusal, ResponseMode, Rules, TpmCc, TpmResponse};
@@ -258,6 +268,21 @@ impl ResponseParts<'_> {
     /// parts.mode = ResponseMode::BadTag;
     /// let refusal = parts.marshal(TpmCc::Unseal, &mut room).unwrap_err();
     /// assert_eq!(refusal, Refusal::InvalidRc { offset: 0, value: 0x101 });
+    /// # Ok::<(), Refusal>(())
+    /// ```
+    ///
+    /// ```
+    /// use skeinloft::{Refusal, ResponseMode, ResponseParts, Sessions, TpmCc, TpmRc, TpmsAuth};
+    ///
+    /// let mut scratch = [0; 65];
+    /// let entry = TpmsAuth { hmac: &[8; 65], ..TpmsAuth::default() };
+    /// let sessions = Sessions::new(&[entry], &mut scratch)?;
+    /// let cleared =
+    ///     |mode| ResponseParts { mode, rc: TpmRc::SUCCESS, handles: &[], sessions, parameters: &[] };
+    /// let mut room = [0; 84];
+    /// assert_eq!(cleared(ResponseMode::Rust).marshal(TpmCc::Clear, &mut room)?, 84);
+    /// let refusal = cleared(ResponseMode::Standard).marshal(TpmCc::Clear, &mut room).unwrap_err();
+    /// assert_eq!(refusal, Refusal::TooManyBytes { offset: 0, limit: 64, actual: 65 });
     /// # Ok::<(), Refusal>(())
     /// ```
     #[doc(alias = "tpm_marshal_response")]

@@ -3,6 +3,27 @@
 use crate::calls;
 use crate::st::TpmSt;
 
+/// The most bytes that a nonce or an HMAC has by the standard rules: those of the longest digest (Part 2, `TPMU_HA`).
+///
+/// So a buffer of this size takes each one that is read by [`Rules::STANDARD`]. Those that are read by [`Rules::RUST`] can
+/// have 65,535.
+///
+/// ```
+/// use skeinloft::{MAX_DIGEST_SIZE, Rules, TpmCommand};
+///
+/// let unseal = TpmCommand::cast(Rules::STANDARD, &[
+///     0x80, 0x02, 0, 0, 0, 33, 0, 0, 0x01, 0x5E, 0x80, 0, 0, 0, // tag, size, code, handle
+///     0, 0, 0, 15, 0x40, 0, 0, 9, 0, 0, 0, 0, 6, b's', b'e', b'c', b'r', b'e', b't', // one entry
+/// ])?;
+/// let mut kept = [0; MAX_DIGEST_SIZE];
+/// for entry in unseal.parts()?.sessions.iter() {
+///     kept[..entry.hmac.len()].copy_from_slice(entry.hmac);
+/// }
+/// assert!(kept.starts_with(b"secret"));
+/// # Ok::<(), skeinloft::Refusal>(())
+/// ```
+pub const MAX_DIGEST_SIZE: usize = 64;
+
 /// The rules by which a frame is judged: every call that judges one takes them first.
 ///
 /// Name [`Rules::STANDARD`], or [`Rules::RUST`] to answer as software that runs tpm2-protocol does.
@@ -52,7 +73,8 @@ impl Rules {
     }
 }
 
-/// How a frame is read. The readings differ in responses under the tag [`TpmSt::RspCommand`]; commands are read alike.
+/// How a frame is read. The readings differ in responses under the tag [`TpmSt::RspCommand`], and in frames with a nonce or
+/// an HMAC of more than [`MAX_DIGEST_SIZE`] bytes; all others are read alike.
 ///
 /// ```
 /// use skeinloft::{Reading, Rules, TpmCommand};
@@ -64,9 +86,10 @@ impl Rules {
 /// ```
 #[derive(Clone, Copy, Debug, Default, PartialEq, Eq, Hash)]
 pub enum Reading {
-    /// As tpm2-protocol reads: no frame has that tag.
+    /// As tpm2-protocol reads: no frame has that tag, and nonces and HMACs have no limit.
     Rust,
-    /// As the Library has it: the answer to a bad tag passes, which is that tag and the code `TPM_RC_BAD_TAG` in ten bytes.
+    /// As the Library has it: the answer to a bad tag passes, which is that tag and the code `TPM_RC_BAD_TAG` in ten bytes,
+    /// and a nonce or an HMAC has at most [`MAX_DIGEST_SIZE`] bytes.
     #[default]
     Standard,
 }

@@ -115,11 +115,11 @@ impl fmt::Display for TpmaSession {
 pub struct TpmsAuth<'a> {
     /// The handle. An entry of a response has none: 0 where it is read, ignored where it is written.
     pub session_handle: u32,
-    /// The nonce.
+    /// The nonce: of at most [`MAX_DIGEST_SIZE`](crate::MAX_DIGEST_SIZE) bytes where it was read by the standard rules.
     pub nonce: &'a [u8],
     /// The attributes.
     pub session_attributes: TpmaSession,
-    /// The HMAC, or a password.
+    /// The HMAC, or a password, with the same limit.
     pub hmac: &'a [u8],
 }
 
@@ -144,7 +144,8 @@ pub struct Sessions<'a> {
 }
 
 impl<'a> Sessions<'a> {
-    /// Takes these entries, and copies their nonces and HMACs to the room. The writers refuse more than three.
+    /// Takes these entries, and copies their nonces and HMACs to the room. The writers refuse more than three, and by
+    /// the standard rules a nonce or an HMAC of more than [`MAX_DIGEST_SIZE`](crate::MAX_DIGEST_SIZE) bytes.
     ///
     /// # Errors
     ///

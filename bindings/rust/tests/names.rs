@@ -105,6 +105,11 @@ mod beside_the_crate {
     }
 
     #[test]
+    fn the_longest_digest_is_alike() {
+        assert_eq!(skeinloft::MAX_DIGEST_SIZE, tpm2_protocol::constant::MAX_DIGEST_SIZE);
+    }
+
+    #[test]
     fn commands_are_named_alike() {
         let spelt = BTreeMap::from(SPELT_OTHERWISE);
         for code in commands() {

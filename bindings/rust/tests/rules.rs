@@ -1,8 +1,9 @@
-//! Where the two readings differ: responses under the tag of the answer to a bad tag, and nothing else.
+//! Where the two readings differ: responses under the tag of the answer to a bad tag, frames with a long nonce or HMAC, and
+//! nothing else.
 
 use skeinloft::{
-    Refusal, ResponseMode, ResponseParts, Rules, Sessions, TpmCc, TpmCommand, TpmRc, TpmRcBase, TpmResponse, TpmSt,
-    TpmsAuth,
+    CommandParts, MAX_DIGEST_SIZE, Refusal, ResponseMode, ResponseParts, Rules, Sessions, TpmCc, TpmCommand, TpmRc,
+    TpmRcBase, TpmResponse, TpmSt, TpmsAuth,
 };
 
 /// What a TPM answers to a command whose tag it does not understand.
@@ -122,5 +123,151 @@ fn the_writer_refuses_in_order() {
         let mut written = [0xFF; 10];
         assert_eq!(parts.marshal(cc, &mut written[..room]), Err(due));
         assert_eq!(written, [0xFF; 10]);
+    }
+}
+
+// ---- nonces and HMACs
+
+/// Sizes around the limit, those of which the other byte counts, and the longest.
+const SIZES: [u16; 9] = [0, 1, 63, 64, 65, 66, 255, 256, 65535];
+
+/// Entries with nonces and HMACs of these sizes, and a handle before each of a command's.
+fn entries(command: bool, sizes: &[[u16; 2]]) -> Vec<u8> {
+    let field = |size: u16| [&size.to_be_bytes()[..], &vec![7; size.into()]].concat();
+    let entry = |&[nonce, hmac]: &[u16; 2]| {
+        [&[2; 4][if command { 0 } else { 4 }..], &field(nonce), &[1], &field(hmac)].concat()
+    };
+    sizes.iter().flat_map(entry).collect()
+}
+
+/// A TPM2_GetRandom with these bytes for entries, or a response to one, and where they start.
+fn random(command: bool, entries: &[u8]) -> (Vec<u8>, usize) {
+    let code = if command { TpmCc::GetRandom.value() } else { 0 };
+    let sized = |bytes: &[u8]| [&(bytes.len() as u32).to_be_bytes()[..], bytes].concat();
+    let behind =
+        if command { [sized(entries), vec![0, 8]].concat() } else { [sized(&[0, 1, 9]), entries.to_vec()].concat() };
+    let size = 10 + behind.len() as u32;
+    let bytes =
+        [&TpmSt::Sessions.value().to_be_bytes()[..], &size.to_be_bytes(), &code.to_be_bytes(), &behind].concat();
+    (bytes, if command { 14 } else { 17 })
+}
+
+/// What the full checks say, which is one thing; a cast is not refused.
+fn walked(rules: Rules, command: bool, bytes: &[u8]) -> Result<(), Refusal> {
+    let [validated, parts, areas] = if command {
+        let it = TpmCommand::cast(rules, bytes).expect("a cast does not walk");
+        [it.validate(), it.parts().map(|_| ()), it.areas().map(|_| ())]
+    } else {
+        let it = TpmResponse::cast(rules, bytes).expect("a cast does not walk");
+        let cc = TpmCc::GetRandom;
+        [it.validate(cc), it.parts(cc).map(|_| ()), it.areas(cc).map(|_| ())]
+    };
+    assert_eq!((parts, areas), (validated, validated));
+    validated
+}
+
+/// Each place of a field among three entries: how many entries stand before its own, and whether it is the HMAC.
+fn fields() -> impl Iterator<Item = (usize, usize)> {
+    (0..3).flat_map(|before| [(before, 0), (before, 1)])
+}
+
+/// Three entries of short fields, of which one has this size.
+fn one_of(size: u16, (before, field): (usize, usize)) -> [[u16; 2]; 3] {
+    let mut sizes = [[3, 4]; 3];
+    sizes[before][field] = size;
+    sizes
+}
+
+/// Where the size of a field is.
+fn size_place(command: bool, start: usize, (before, field): (usize, usize)) -> usize {
+    let handle = if command { 4 } else { 0 };
+    start + before * (handle + 12) + handle + field * 6
+}
+
+fn too_long(offset: usize, size: u16) -> Result<(), Refusal> {
+    if usize::from(size) <= MAX_DIGEST_SIZE {
+        return Ok(());
+    }
+    Err(Refusal::TooManyBytes { offset, limit: MAX_DIGEST_SIZE, actual: size.into() })
+}
+
+#[test]
+fn long_fields_are_refused_in_the_standard_reading_alone() {
+    for command in [true, false] {
+        for (field, size) in fields().flat_map(|field| SIZES.map(|size| (field, size))) {
+            let (bytes, start) = random(command, &entries(command, &one_of(size, field)));
+            assert_eq!(walked(Rules::RUST, command, &bytes), Ok(()));
+            let due = too_long(size_place(command, start, field), size);
+            assert_eq!(walked(Rules::STANDARD, command, &bytes), due, "{command} {field:?} {size}");
+        }
+    }
+}
+
+#[test]
+fn a_size_is_judged_before_the_bytes_behind_it() {
+    for command in [true, false] {
+        for (field, size) in fields().flat_map(|field| [64, 65].map(|size| (field, size))) {
+            let whole = entries(command, &one_of(size, field));
+            let place = size_place(command, 0, field);
+            for there in 1..2 + usize::from(size) {
+                let (bytes, start) = random(command, &whole[..place + there]);
+                let offset = start + place;
+                let needed = if there < 2 { 2 } else { 2 + usize::from(size) };
+                let short = Err(Refusal::UnexpectedEnd { offset, needed, available: there });
+                assert_eq!(walked(Rules::RUST, command, &bytes), short);
+                let due = if there < 2 { short } else { too_long(offset, size).and(short) };
+                assert_eq!(walked(Rules::STANDARD, command, &bytes), due, "{command} {field:?} {size} {there}");
+            }
+        }
+    }
+}
+
+/// Writes entries of these sizes by the rules of either reading, in a command and in a response to it.
+fn written(sizes: &[[u16; 2]], handles: &[u8], room: &mut [u8]) -> [[Result<usize, Refusal>; 2]; 2] {
+    let (bytes, mut scratch) = (vec![7; 65535], vec![0; 400_000]);
+    let of = |size: u16| &bytes[..size.into()];
+    let entries: Vec<TpmsAuth> = sizes
+        .iter()
+        .map(|&[nonce, hmac]| TpmsAuth { nonce: of(nonce), hmac: of(hmac), ..TpmsAuth::default() })
+        .collect();
+    let sessions = Sessions::new(&entries, &mut scratch).expect("there is room");
+    let (tag, cc, rc, parameters) = (TpmSt::Sessions, TpmCc::GetRandom, TpmRc::SUCCESS, &[][..]);
+    let command = CommandParts { tag, cc, handles, sessions, parameters };
+    [
+        [Rules::RUST, Rules::STANDARD].map(|rules| command.marshal(rules, room)),
+        [ResponseMode::Rust, ResponseMode::Standard]
+            .map(|mode| ResponseParts { mode, rc, handles, sessions, parameters }.marshal(cc, room)),
+    ]
+}
+
+#[test]
+fn long_fields_are_written_by_the_rust_rules_alone() {
+    let mut room = vec![0; 400_000];
+    for (field, size) in fields().flat_map(|field| SIZES.map(|size| (field, size))) {
+        for [rust, standard] in written(&one_of(size, field), &[], &mut room) {
+            assert!(rust.is_ok());
+            assert_eq!(standard, too_long(0, size).and(rust), "{field:?} {size}");
+        }
+    }
+}
+
+#[test]
+fn the_writers_judge_each_field_in_turn() {
+    let limit = MAX_DIGEST_SIZE;
+    let long = |actual| Refusal::TooManyBytes { offset: 0, limit, actual };
+    for (sizes, handles, due) in [
+        // more sessions than three, and handles that are too many, come before, and short room behind
+        (&[[65, 66]; 4][..], &[0; 4][..], Refusal::TooManyItems { offset: 0, limit: 3, actual: 4 }),
+        (&[[65, 66]], &[0; 4], Refusal::TrailingData { offset: 0, actual: 4 }),
+        (&[[65, 66]], &[], long(65)),
+        (&[[64, 66], [67, 68]], &[], long(66)),
+        (&[[64, 64], [67, 68]], &[], long(67)),
+        (&[[64, 64], [64, 64], [0, 69]], &[], long(69)),
+    ] {
+        let mut room = [0xFF; 9];
+        for [_, standard] in written(sizes, handles, &mut room) {
+            assert_eq!(standard, Err(due));
+        }
+        assert_eq!(room, [0xFF; 9]);
     }
 }
