@@ -18,12 +18,12 @@
 
    WHAT THE CALLER OWES
    - Every pointer is valid for its length. It may be null only where the length is 0.
-   - `out` points to eight numbers, the data of a buffer to 64 or to 1,024 bytes; neither is null.
+   - `out` points to eight numbers, the data of a buffer to 64 or to 1,024 bytes, a keeper to a whole struct; none is null.
    - What is written overlaps nothing else that the call is given.
    The values themselves are free: every byte string, number and record is taken, and has its answer or its refusal.
 
-   Nothing is kept behind a call and there is no state: calls may run at the same time in several threads, as long as what they
-   write to is not shared.
+   Nothing is kept behind a call. The one state there is, the nonce keeper's, is the caller's own struct. So calls may run at
+   the same time in several threads, as long as what they write to is not shared.
 
    ONE MEANING A WORD
    len    the bytes of a slice that is given
@@ -61,6 +61,12 @@ enum skein_refusal {
     SKEIN_INTEGER_TOO_LARGE = 7, /* offset, value */
     SKEIN_TOO_MANY_BYTES = 8,    /* offset, limit, actual */
     SKEIN_BUFFER_OVERFLOW = 9,   /* offset, needed, available: lent room too short */
+    /* of the nonce keeper, without fields */
+    SKEIN_HANDLE_REPEATED = 13,  /* a command names an open session twice */
+    SKEIN_COUNTS_DIFFER = 14,    /* an answer has another count of entries than its command */
+    SKEIN_ALREADY_OPEN = 15,     /* the session is open already */
+    SKEIN_ALL_OPEN = 16,         /* as many sessions are open as a keeper takes */
+    SKEIN_NOT_OPEN = 17,         /* the session is not open */
     /* from 100 on: a number in the call itself names nothing */
     SKEIN_NO_SUCH_KIND = 100,    /* 0, kind */
     SKEIN_NO_SUCH_RULES = 101    /* 0, rules */
@@ -113,7 +119,9 @@ enum {
     SKEIN_MAX_DIGEST_SIZE = 64, /* bytes of a nonce or an HMAC, by the standard rules */
     SKEIN_HEADER = 10,          /* bytes of a frame's header: where its handles start */
     SKEIN_BUFFER64 = 64,        /* bytes of the fixed buffers' data */
-    SKEIN_BUFFER1024 = 1024
+    SKEIN_BUFFER1024 = 1024,
+    SKEIN_KEEPER_PLACES = 64,   /* sessions that a keeper holds open */
+    SKEIN_KEEPER_SIZE = 4424    /* bytes of a keeper */
 };
 
 /* ---- structs */
@@ -178,6 +186,11 @@ struct skein_response_parts {
     struct skein_response response;
 };
 
+/* A nonce keeper, which belongs to the caller. Only the calls below know what stands in it; it may be copied and moved. */
+struct skein_keeper {
+    uint64_t opaque[553];
+};
+
 /* The library is one for 64-bit machines: there the structs have these sizes. */
 #if defined(__cplusplus) && __cplusplus >= 201103L
 #define SKEIN_HOLDS(name, fact) static_assert(fact, #name)
@@ -195,6 +208,7 @@ SKEIN_HOLDS(skein_size_of_command, sizeof(struct skein_command) == 208);
 SKEIN_HOLDS(skein_size_of_response, sizeof(struct skein_response) == 208);
 SKEIN_HOLDS(skein_size_of_command_parts, sizeof(struct skein_command_parts) == 216);
 SKEIN_HOLDS(skein_size_of_response_parts, sizeof(struct skein_response_parts) == 216);
+SKEIN_HOLDS(skein_size_of_keeper, sizeof(struct skein_keeper) == SKEIN_KEEPER_SIZE);
 #undef SKEIN_HOLDS
 
 /* ---- commands
@@ -293,6 +307,40 @@ uint32_t skein_response_write_array(uint32_t rules, uint32_t rc, uint32_t cc, co
                                     const struct skein_session *records, size_t count, const uint8_t *lent, size_t lent_len,
                                     const uint8_t *parameters, size_t parameters_len, uint8_t *room, size_t room_len,
                                     uint64_t out[8]);
+
+/* ---- the nonce keeper
+
+   The TPM sends a fresh nonce in each answer, and the next command of the session is signed over it. The keeper remembers, for
+   up to 64 open sessions, the session's handle and the last nonce from the TPM. It reads frames by SKEIN_RULES_STANDARD.
+   A refused call leaves the keeper as it was, byte for byte. Every struct is taken, also one of random bytes: then what it
+   stands for is not sensible, and no call reads or writes outside it. A keeper is empty once it was given to
+   skein_keeper_new, or where all its bytes are zeros. */
+
+/* Makes an empty keeper. Gives nothing. */
+uint32_t skein_keeper_new(struct skein_keeper *keeper, uint64_t out[8]);
+
+/* Opens a session with its first nonce, which TPM2_StartAuthSession has given. Gives nothing.
+   Refuses 15 where the handle is open, 8(0,64,nonce_len), 16 where 64 sessions are open. */
+uint32_t skein_keeper_open(uint32_t handle, const uint8_t *nonce, size_t nonce_len, struct skein_keeper *keeper,
+                           uint64_t out[8]);
+
+/* Takes an answer of the TPM with the command that it answers. Gives nothing.
+   Where the answer is success, each open session that the command names gets the nonce at the same position of the answer;
+   handles that are not open are passed by. An error moves nothing, and is no refusal.
+   Refuses as skein_command_parts, then as skein_response_parts for the command's code; of success then 13 where the command
+   names an open session twice, 14 where the two have different counts of entries. */
+uint32_t skein_keeper_answer(const uint8_t *command, size_t command_len, const uint8_t *response, size_t response_len,
+                             struct skein_keeper *keeper, uint64_t out[8]);
+
+/* Closes a session, where it was flushed, or where a command said that it does not go on. Gives nothing. Refuses 17. */
+uint32_t skein_keeper_close(uint32_t handle, struct skein_keeper *keeper, uint64_t out[8]);
+
+/* Gives where the nonce of a session stands in the keeper's own bytes: its start and its end, counted from the keeper's first
+   byte. It stands there until the next call that changes the keeper. Refuses 17. */
+uint32_t skein_keeper_ask(uint32_t handle, const struct skein_keeper *keeper, uint64_t out[8]);
+
+/* Gives how many sessions are open. */
+uint32_t skein_keeper_len(const struct skein_keeper *keeper, uint64_t out[8]);
 
 /* ---- headers, of either kind */
 

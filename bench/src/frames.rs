@@ -31,13 +31,18 @@ pub fn real() -> &'static [Pair] {
 
 /// One pair with so many entries and parameter bytes; without entries it is under the plain tag.
 pub fn made(entries: usize, parameters: usize) -> [Pair; 1] {
+    [made_of(0x131, entries, parameters)]
+}
+
+/// The same of a command's code.
+pub fn made_of(code: u32, entries: usize, parameters: usize) -> Pair {
     let random = &mut Random::new(1);
-    let row = known::row(0x131).expect("a row");
+    let row = known::row(code).expect("a row");
     let parameters = vec![0x5A; parameters];
     let areas = [true, false].map(|command| make::entries(command, entries, (32, 32), random).bytes);
     let [asked, answered] = areas.each_ref().map(|area| Some(area.as_slice()).filter(|area| !area.is_empty()));
     let command = make::command(&row, asked, &parameters, random);
-    [Pair { command, response: make::response(&row, answered, &parameters, random) }]
+    Pair { command, response: make::response(&row, answered, &parameters, random) }
 }
 
 impl Pair {

@@ -1,10 +1,11 @@
-//! Measures calls of the proved library beside the same calls of the crate tpm2-protocol, and beside tpm2-tss.
+//! Measures calls of the proved library beside the same calls of the crate tpm2-protocol, and beside tpm2-tss; and the
+//! nonce keeper's beside validating the two frames of an answer.
 //!
 //! usage: bench BESIDE --rows                  prints the rows' names, one a line
 //!        bench BESIDE --time ROW              prints nanoseconds a call: ours, the other side's
 //!        bench BESIDE --count ROW SIDE N      makes N calls of a side, to be counted from outside
 //!
-//! BESIDE is rust or tss; SIDE is ours, other or empty.
+//! BESIDE is rust, tss or frames; SIDE is ours, other or empty.
 
 // no row measures every call
 #[allow(dead_code)]
@@ -12,6 +13,7 @@
 mod calls;
 mod frame;
 mod frames;
+mod keeper;
 #[allow(dead_code)]
 #[path = "../../compare/src/oracle.rs"]
 mod oracle;
@@ -38,6 +40,7 @@ fn rows(beside: &str) -> Result<&'static [Row], String> {
     match beside {
         "rust" => Ok(rows::ROWS),
         "tss" => Ok(tss::ROWS),
+        "frames" => Ok(keeper::ROWS),
         _ => Err(format!("there is nothing beside '{beside}'")),
     }
 }

@@ -21,7 +21,7 @@ pub mod oracle;
 pub mod real;
 mod rules;
 
-pub use call::{Call, Kind, named};
+pub use call::{CALLS, Call, Kind, Says, named};
 pub use desk::Desk;
 pub use listed::list;
 

@@ -26,6 +26,7 @@ mod field;
 mod fixed;
 mod frame;
 mod judge;
+mod keeper;
 #[cfg(oracle)]
 mod oracle;
 mod random;
@@ -50,13 +51,14 @@ struct Suite {
     list: fn(&mut Random),
 }
 
-static SUITES: [Suite; 8] = [
+static SUITES: [Suite; 9] = [
     Suite { name: "field", run: |random, _| field::run(random), list: field::list },
     Suite { name: "rc", run: rc::run, list: rc::list },
     Suite { name: "view", run: |random, _| view::run(random), list: view::list },
     Suite { name: "fixed", run: |random, _| fixed::run(random), list: |_| () },
     Suite { name: "frame", run: frame::run, list: frame::list },
     Suite { name: "write", run: write::run, list: |_| () },
+    Suite { name: "keeper", run: keeper::run, list: |_| () },
     Suite { name: TRAFFIC, run: |_, _| traffic::run(), list: |_| () },
     Suite { name: "tss", run: tss::run, list: |_| () },
 ];

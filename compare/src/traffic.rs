@@ -2,14 +2,16 @@
 //! They are not part of the repository: SKEIN_TRAFFIC names the folder that has them, else it is ../shared/facts beside
 //! the repository. A response is judged for the code of the command that it answers. Each frame that passes is written
 //! again from its parts. The two readings have to judge alike, but for the answer to a bad tag and for a nonce or an HMAC
-//! that is too long.
+//! that is too long. A nonce keeper follows the sessions of each recording.
 
+mod nonces;
 mod published;
 
 use crate::answer::Hex;
 use crate::calls::{self, Out, RUST, STANDARD};
 use crate::frame::{Desk, Kind, make, named, real};
 use crate::judge::{RULES, TOO_LONG, Tally};
+use crate::keeper;
 use crate::shown::said;
 use crate::write::{self, Again};
 use std::collections::BTreeMap;
@@ -59,36 +61,42 @@ pub fn run() -> Vec<Tally> {
         return Vec::new();
     }
     let mut desks = Desks { read: Desk::new(), again: Again::new(), apart: BTreeMap::new() };
-    traces(&mut desks, &folder.join("traces"));
+    let recordings = recordings(&folder.join("traces"));
+    traces(&mut desks, &recordings);
+    let mut keeper = keeper::Desk::new();
+    nonces::check(&mut keeper, &recordings);
     published::check(&mut desks, &folder.join("published-frames.csv"));
     tell_apart(&desks.apart);
     desks.again.tell(super::TRAFFIC);
     let mut tallies = desks.read.done();
     tallies.extend(desks.again.desk.done());
+    tallies.extend(keeper.done());
     tallies
 }
 
-/// A line of a trace is a command and its response, in hexadecimal.
-fn traces(desks: &mut Desks, folder: &Path) {
+/// A command and its response.
+type Pair = (Vec<u8>, Vec<u8>);
+
+fn traces(desks: &mut Desks, recordings: &[Vec<Pair>]) {
     let (mut commands, mut responses) = (Count::default(), Count::default());
-    for (command, response) in pairs(folder) {
-        commands.add(ask_command(desks, &command));
-        responses.add(ask_response(desks, real::code(&command), &response));
+    for (command, response) in recordings.iter().flatten() {
+        commands.add(ask_command(desks, command));
+        responses.add(ask_response(desks, real::code(command), response));
         // as they follow each other on a bus
-        desks.read.lay(&[command, response].concat());
+        desks.read.lay(&[command.as_slice(), response].concat());
         desks.read.ask(named("command_cast_prefix"), 0);
     }
     commands.tell("commands");
     responses.tell("responses");
 }
 
-/// The commands and responses of all traces.
-fn pairs(folder: &Path) -> Vec<(Vec<u8>, Vec<u8>)> {
+/// The commands and responses of each trace, of which a line is a pair in hexadecimal.
+fn recordings(folder: &Path) -> Vec<Vec<Pair>> {
     let of_file = |file: PathBuf| {
         let pair = |line| real::pair(line).unwrap_or_else(|| panic!("a line of {} is no pair", file.display()));
-        read(&file).lines().map(pair).collect::<Vec<_>>()
+        read(&file).lines().map(pair).collect()
     };
-    texts(folder).into_iter().flat_map(of_file).collect()
+    texts(folder).into_iter().map(of_file).collect()
 }
 
 /// All commands, recorded and published; none where there is no such folder.
@@ -97,7 +105,7 @@ pub fn commands() -> Vec<Vec<u8>> {
     if !folder.is_dir() {
         return Vec::new();
     }
-    let recorded = pairs(&folder.join("traces")).into_iter().map(|(command, _)| command);
+    let recorded = recordings(&folder.join("traces")).into_iter().flatten().map(|(command, _)| command);
     recorded.chain(published::commands(&folder.join("published-frames.csv"))).collect()
 }
 

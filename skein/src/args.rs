@@ -3,26 +3,32 @@
 use skeinloft::{Reading, Rules, TpmCc};
 use std::ffi::OsString;
 
-pub const USAGE: &str =
-    "usage: skein inspect [--json] [--raw [--pairs]] [--answers-to COMMAND] [--reading READING] [FILE]";
+pub const USAGE: &str = "\
+usage: skein inspect [--json] [--raw [--pairs]] [--answers-to COMMAND] [--reading READING] [FILE]
+       skein nonces [--json] [--raw] [FILE]";
 
 pub const HELP: &str = "\
 usage: skein inspect [--json] [--raw [--pairs]] [--answers-to COMMAND]
                      [--reading READING] [FILE]
+       skein nonces [--json] [--raw] [FILE]
        skein --help | --version
 
-Shows TPM 2.0 command and response frames, and why a bad one is refused.
-FILE, or standard input, has a frame a line in hexadecimal, or a command and
-its answer on a line with a space between them.
+inspect shows TPM 2.0 command and response frames, and why a bad one is
+refused. FILE, or standard input, has a frame a line in hexadecimal, or a
+command and its answer on a line with a space between them. A frame that
+stands alone is taken for a command where its code is a command's. Else it is
+taken for a response, of which the header alone is judged: what is behind it
+depends on the command that it answers. Under the tag 00C4, which no command
+has, it is a response and is judged whole.
 
-A frame that stands alone is taken for a command where its code is a
-command's. Else it is taken for a response, of which the header alone is
-judged: what is behind it depends on the command that it answers. Under the
-tag 00C4, which no command has, it is a response and is judged whole.
+nonces follows the sessions of recorded traffic, a command and its answer a
+line: where each one opens, the nonces that it moves to, where it stays at
+one and why, where it closes, and what the nonce keeper refuses.
 
-  --json                one object a frame
+  --json                one object a frame, or for each line of nonces
   --raw                 FILE has raw bytes: frames end to end, cut by their
-                        size fields
+                        size fields; for nonces commands and their answers
+                        in turn
   --pairs               with --raw: commands and their answers in turn
   --answers-to COMMAND  frames that stand alone are answers to this command,
                         which is a name (TPM2_GetRandom, GetRandom) or a
@@ -32,8 +38,8 @@ tag 00C4, which no command has, it is a response and is judged whole.
                         answers to a command whose tag it did not understand,
                         and takes nonces and HMACs of more than 64 bytes
 
-The status is 0 where every frame passes, 1 where one is refused or a line
-has none, 2 where the words are wrong or FILE cannot be read.
+The status is 0 where nothing is refused, 1 where something is or a line has
+no frame, 2 where the words are wrong or FILE cannot be read.
 ";
 
 /// What is asked for.
@@ -42,6 +48,7 @@ pub enum Asked {
     Help,
     Version,
     Inspect(Inspect),
+    Nonces(Nonces),
 }
 
 #[derive(Debug, Default, PartialEq, Eq)]
@@ -55,16 +62,41 @@ pub struct Inspect {
     pub file: Option<OsString>,
 }
 
+#[derive(Debug, Default, PartialEq, Eq)]
+pub struct Nonces {
+    pub json: bool,
+    pub raw: bool,
+    /// None for standard input.
+    pub file: Option<OsString>,
+}
+
 /// Understands the words, or says what is wrong with them.
 pub fn understand(words: impl IntoIterator<Item = OsString>) -> Result<Asked, String> {
     let mut words = words.into_iter();
     match words.next().as_deref().and_then(|word| word.to_str()) {
-        Some("inspect") => {}
-        Some("--help" | "-h" | "help") => return Ok(Asked::Help),
-        Some("--version" | "-V") => return Ok(Asked::Version),
-        Some(other) => return Err(format!("there is no '{other}'")),
-        None => return Err("nothing is asked for".to_owned()),
+        Some("inspect") => inspect(words),
+        Some("nonces") => nonces(words),
+        Some("--help" | "-h" | "help") => Ok(Asked::Help),
+        Some("--version" | "-V") => Ok(Asked::Version),
+        Some(other) => Err(format!("there is no '{other}'")),
+        None => Err("nothing is asked for".to_owned()),
     }
+}
+
+fn nonces(words: impl Iterator<Item = OsString>) -> Result<Asked, String> {
+    let mut asked = Nonces::default();
+    for word in words {
+        match word.to_str() {
+            Some("--json") => asked.json = true,
+            Some("--raw") => asked.raw = true,
+            Some("--help" | "-h") => return Ok(Asked::Help),
+            _ => name_file(word, &mut asked.file)?,
+        }
+    }
+    Ok(Asked::Nonces(asked))
+}
+
+fn inspect(mut words: impl Iterator<Item = OsString>) -> Result<Asked, String> {
     let mut asked = Inspect::default();
     while let Some(word) = words.next() {
         match word.to_str() {
@@ -74,10 +106,7 @@ pub fn understand(words: impl IntoIterator<Item = OsString>) -> Result<Asked, St
             Some("--answers-to") => asked.answers_to = Some(command(words.next())?),
             Some("--reading") => asked.rules = Rules { reading: reading(words.next())? },
             Some("--help" | "-h") => return Ok(Asked::Help),
-            Some("-") => {}
-            Some(option) if option.starts_with('-') => return Err(format!("there is no option {option}")),
-            _ if asked.file.is_some() => return Err("there can be one FILE".to_owned()),
-            _ => asked.file = Some(word),
+            _ => name_file(word, &mut asked.file)?,
         }
     }
     if asked.pairs && !asked.raw {
@@ -87,6 +116,17 @@ pub fn understand(words: impl IntoIterator<Item = OsString>) -> Result<Asked, St
         return Err("--answers-to does not go with --pairs".to_owned());
     }
     Ok(Asked::Inspect(asked))
+}
+
+/// A word that is no option names the file; `-` is standard input.
+fn name_file(word: OsString, file: &mut Option<OsString>) -> Result<(), String> {
+    match word.to_str() {
+        Some("-") => {}
+        Some(option) if option.starts_with('-') => return Err(format!("there is no option {option}")),
+        _ if file.is_some() => return Err("there can be one FILE".to_owned()),
+        _ => *file = Some(word),
+    }
+    Ok(())
 }
 
 fn reading(word: Option<OsString>) -> Result<Reading, String> {
@@ -112,7 +152,7 @@ fn command(word: Option<OsString>) -> Result<TpmCc, String> {
 
 #[cfg(test)]
 mod tests {
-    use super::{Asked, Inspect, understand};
+    use super::{Asked, Inspect, Nonces, understand};
     use skeinloft::{Rules, TpmCc};
 
     fn of(words: &str) -> Result<Asked, String> {
@@ -134,6 +174,10 @@ mod tests {
             let asked = Inspect { rules, ..Inspect::default() };
             assert_eq!(of(&format!("inspect {words}")), Ok(Asked::Inspect(asked)));
         }
+        let all = Nonces { json: true, raw: true, file: Some("f".into()) };
+        assert_eq!(of("nonces --raw f --json"), Ok(Asked::Nonces(all)));
+        assert_eq!(of("nonces -"), Ok(Asked::Nonces(Nonces::default())));
+        assert_eq!((of("nonces -h"), of("inspect f --help")), (Ok(Asked::Help), Ok(Asked::Help)));
     }
 
     #[test]
@@ -149,6 +193,9 @@ mod tests {
             "inspect --raw --pairs --answers-to Load",
             "inspect --reading",
             "inspect --reading Rust",
+            "nonces --pairs",
+            "nonces --reading rust",
+            "nonces a b",
         ] {
             assert!(of(words).is_err(), "{words}");
         }

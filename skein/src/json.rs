@@ -8,10 +8,7 @@ use skeinloft::Refusal;
 use std::fmt::{self, Write};
 
 pub fn show(place: Place, seen: &Seen, out: &mut String) -> fmt::Result {
-    match place {
-        Place::Line(line) => write!(out, "{{\"line\":{line}")?,
-        Place::Byte(byte) => write!(out, "{{\"byte\":{byte}")?,
-    }
+    open(place, out)?;
     match seen.kind {
         Kind::Command => write!(out, ",\"kind\":\"command\"")?,
         Kind::Answer(cc) => write!(out, ",\"kind\":\"answer\",\"command\":\"{cc}\"")?,
@@ -27,15 +24,26 @@ pub fn show(place: Place, seen: &Seen, out: &mut String) -> fmt::Result {
     write!(out, ",\"passes\":{},\"len\":{}", seen.verdict.is_ok(), seen.bytes.len())?;
     match &seen.verdict {
         Ok(parts) => fields(seen.bytes, parts, out)?,
-        Err(refusal) => show_refusal(seen.bytes, refusal, out)?,
+        Err(refusal) => {
+            show_refusal(refusal, out)?;
+            write!(out, ",\"bytes\":\"{}\"", Hex(seen.bytes))?;
+        }
     }
     writeln!(out, "}}")
 }
 
-fn show_refusal(bytes: &[u8], refusal: &Refusal, out: &mut String) -> fmt::Result {
+/// An object starts with its place.
+pub fn open(place: Place, out: &mut String) -> fmt::Result {
+    match place {
+        Place::Line(line) => write!(out, "{{\"line\":{line}"),
+        Place::Byte(byte) => write!(out, "{{\"byte\":{byte}"),
+    }
+}
+
+pub fn show_refusal(refusal: &Refusal, out: &mut String) -> fmt::Result {
     write!(out, ",\"refusal\":{{\"number\":{},\"name\":\"{}\"", refusal.number(), refusal.name())?;
     refusal.fields().try_for_each(|(field, value)| write!(out, ",\"{field}\":{value}"))?;
-    write!(out, ",\"words\":\"{refusal}\"}},\"bytes\":\"{}\"", Hex(bytes))
+    write!(out, ",\"words\":\"{refusal}\"}}")
 }
 
 /// Parts by their names, behind what stands in the object already.

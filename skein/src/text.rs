@@ -82,10 +82,11 @@ fn show_bytes(bytes: &[u8], meaning: &str, out: &mut String) -> fmt::Result {
     Ok(())
 }
 
-/// The refusal's name, its number and its fields.
+/// The refusal's name, its number and its fields, if it has some.
 pub fn short(refusal: &Refusal) -> String {
     let fields: Vec<String> = refusal.fields().map(|(_, value)| value.to_string()).collect();
-    format!("{} {}({})", refusal.name(), refusal.number(), fields.join(","))
+    let fields = if fields.is_empty() { String::new() } else { format!("({})", fields.join(",")) };
+    format!("{} {}{fields}", refusal.name(), refusal.number())
 }
 
 /// The refusal in words, and the bytes around its place with a mark under it.

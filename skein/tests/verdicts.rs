@@ -3,14 +3,11 @@
 //! The frames are those that the comparison keeps, and where there are any those that SKEIN_TRAFFIC names, else those of
 //! ../shared/facts beside the repository.
 
-#[allow(dead_code)]
-#[path = "../../bindings/rust/src/calls.rs"]
-mod calls;
+mod common;
 
-// the library is linked with it
-use skeinloft as _;
+use common::{calls, facts, traces, unhex};
 use std::io::Write;
-use std::path::{Path, PathBuf};
+use std::path::Path;
 use std::process::{Command, Stdio};
 
 const KEPT: &str = concat!(env!("CARGO_MANIFEST_DIR"), "/../compare/src/frame/real.txt");
@@ -55,11 +52,6 @@ fn said(call: impl FnOnce(&mut calls::Out) -> u32) -> Said {
     (number.into(), if number == 0 { Vec::new() } else { fields.collect() })
 }
 
-fn unhex(text: &str) -> Vec<u8> {
-    let digits = text.as_bytes().chunks(2).map(|pair| std::str::from_utf8(pair).expect("digits"));
-    digits.map(|pair| u8::from_str_radix(pair, 16).expect("hexadecimal")).collect()
-}
-
 /// What the library says of a line by these rules: of the command, and of its answer.
 fn pair(rules: u32, line: &str) -> [Said; 2] {
     let (command, answer) = line.split_once(' ').expect("a command and its answer");
@@ -72,17 +64,6 @@ fn pair(rules: u32, line: &str) -> [Said; 2] {
         None => calls::response_cast(rules, &answer, out),
     };
     [said(|out| calls::command_validate(rules, &command, out)), said(judged)]
-}
-
-/// The folder of recorded frames, if there is one.
-fn facts() -> Option<PathBuf> {
-    let beside = || PathBuf::from(concat!(env!("CARGO_MANIFEST_DIR"), "/../../shared/facts"));
-    let folder = std::env::var_os("SKEIN_TRAFFIC").map_or_else(beside, PathBuf::from);
-    if !folder.is_dir() {
-        println!("skipped, since there is no {}", folder.display());
-        return None;
-    }
-    Some(folder)
 }
 
 /// Holds `skein` to the library on a file of pairs, in both readings, and tells how many frames it has.
@@ -113,12 +94,8 @@ fn kept_frames() {
 
 #[test]
 fn recorded_frames() {
-    let Some(facts) = facts() else { return };
-    let folder = std::fs::read_dir(facts.join("traces")).expect("a folder of traces");
-    let files = folder
-        .map(|entry| entry.expect("a file").path())
-        .filter(|path| path.extension().is_some_and(|end| end == "txt"));
-    let frames: usize = files.map(|file| check(&file)).sum();
+    let Some(traces) = traces() else { return };
+    let frames: usize = traces.map(|file| check(&file)).sum();
     println!("{frames} recorded frames");
     assert!(frames > 0);
 }

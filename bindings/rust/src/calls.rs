@@ -276,3 +276,48 @@ macro_rules! capacities {
 }
 
 capacities!(64 1024);
+
+// ---- the nonce keeper
+
+/// A keeper. Only the calls know what stands in it; zeros are an empty one.
+#[repr(C)]
+#[derive(Clone, Debug, PartialEq, Eq)]
+pub struct Keeper {
+    pub opaque: [u64; 553],
+}
+
+impl Keeper {
+    pub const EMPTY: Self = Self { opaque: [0; 553] };
+
+    /// Its bytes, in which `keeper_ask` gives places.
+    pub fn bytes(&self) -> &[u8] {
+        // SAFETY: a number of eight bytes is eight bytes that are set, and they are borrowed as long as the keeper is.
+        unsafe { core::slice::from_raw_parts(self.opaque.as_ptr().cast(), size_of::<Self>()) }
+    }
+}
+
+calls! {
+    "skein_";
+
+    pub fn keeper_new(keeper: &mut Keeper, []);
+    pub fn keeper_open(handle: u32, [nonce: &[u8]], keeper: &mut Keeper);
+    pub fn keeper_close(handle: u32, keeper: &mut Keeper, []);
+    pub fn keeper_ask(handle: u32, keeper: &Keeper, []);
+    pub fn keeper_len(keeper: &Keeper, []);
+}
+
+pub fn keeper_answer(command: &[u8], response: &[u8], keeper: &mut Keeper, out: &mut Out) -> u32 {
+    unsafe extern "C" {
+        fn skein_keeper_answer(
+            command: *const u8,
+            command_len: usize,
+            response: *const u8,
+            response_len: usize,
+            keeper: &mut Keeper,
+            out: &mut Out,
+        ) -> u32;
+    }
+    let ((command, c), (response, r)) = (command.lent(), response.lent());
+    // SAFETY: as above.
+    unsafe { skein_keeper_answer(command, c, response, r, keeper, out) }
+}

@@ -47,6 +47,21 @@
 //! assert_eq!(len, 33);
 //! # Ok::<(), Refusal>(())
 //! ```
+//!
+//! # Keeping nonces
+//!
+//! Each answer of the TPM brings a nonce over which the session's next command is signed. A [`Keeper`] takes every command with
+//! its answer, and knows the last nonce of each open session.
+//!
+//! ```
+//! use skeinloft::{Keeper, Refusal};
+//!
+//! let mut keeper = Keeper::new();
+//! keeper.open(0x0200_0000, &[7; 16])?; // what TPM2_StartAuthSession gave
+//! assert_eq!(keeper.nonce(0x0200_0000)?, [7; 16]);
+//! assert_eq!(keeper.nonce(0x0200_0001), Err(Refusal::NotOpen));
+//! # Ok::<(), Refusal>(())
+//! ```
 
 #![no_std]
 #![deny(unsafe_code)]
@@ -58,6 +73,7 @@ mod base;
 mod calls;
 mod cc;
 mod command;
+mod keeper;
 mod names;
 mod rc;
 mod refusal;
@@ -72,6 +88,7 @@ mod view;
 pub use base::TpmRcBase;
 pub use cc::TpmCc;
 pub use command::{CommandParts, TpmCommand};
+pub use keeper::Keeper;
 pub use rc::{TpmRc, TpmRcIndex};
 pub use refusal::Refusal;
 pub use response::{ResponseParts, TpmResponse};

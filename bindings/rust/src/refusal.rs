@@ -3,13 +3,14 @@
 use crate::calls::{OFFSET, Out};
 use core::fmt;
 
-/// One list of all refusals: a number, the name, its fields, and its words.
+/// One list of all refusals: a number, the name, its fields if it has some, and its words.
 macro_rules! refusals {
-    ($($(#[$doc:meta])* $number:literal $name:ident { $($(#[$told:meta])* $field:ident: $type:ty,)* } $words:literal)*) => {
+    ($($(#[$doc:meta])* $number:literal $name:ident $({ $($(#[$told:meta])* $field:ident: $type:ty,)* })? $words:literal)*) => {
         /// Why a call was refused: bad input has one refusal, by number, name and fields.
         ///
         /// The names and the fields are those of `TpmError` in tpm2-protocol. The offset is always the first field, and
-        /// counts from the first byte that the call was given.
+        /// counts from the first byte that the call was given. Those from 13 on are of [`Keeper`](crate::Keeper), which
+        /// tpm2-protocol does not have, and have no fields.
         ///
         /// ```
         /// use skeinloft::{Refusal, Rules, TpmCommand};
@@ -22,7 +23,7 @@ macro_rules! refusals {
         #[derive(Clone, Copy, Debug, PartialEq, Eq, Hash)]
         #[non_exhaustive]
         pub enum Refusal {
-            $($(#[$doc])* $name { $($(#[$told])* $field: $type,)* },)*
+            $($(#[$doc])* $name $({ $($(#[$told])* $field: $type,)* })?,)*
             /// A number that this crate has no name for: the library is newer than the crate.
             Unlisted {
                 /// The place, as in every refusal.
@@ -38,7 +39,7 @@ macro_rules! refusals {
                 let mut fields = out[OFFSET..].iter();
                 let mut next = || fields.next().copied().unwrap_or_default();
                 match number {
-                    $($number => Self::$name { $($field: next() as $type,)* },)*
+                    $($number => Self::$name { $($($field: next() as $type,)*)? },)*
                     _ => Self::Unlisted { offset: next() as usize, number },
                 }
             }
@@ -80,10 +81,10 @@ macro_rules! refusals {
             pub fn fields(&self) -> impl Iterator<Item = (&'static str, u64)> + use<> {
                 let none = ("", 0);
                 let fields: [(&'static str, u64); 3] = match *self {
-                    $(Self::$name { $($field,)* } => {
+                    $(Self::$name { $($($field,)*)? } => {
                         let mut fields = [none; 3];
-                        let told = [$((stringify!($field), $field as u64),)*];
-                        fields[..told.len()].copy_from_slice(&told);
+                        let told: &[(&'static str, u64)] = &[$($((stringify!($field), $field as u64),)*)?];
+                        fields[..told.len()].copy_from_slice(told);
                         fields
                     })*
                     Self::Unlisted { offset, .. } => [("offset", offset as u64), none, none],
@@ -91,7 +92,7 @@ macro_rules! refusals {
                 fields.into_iter().filter(|(name, _)| !name.is_empty())
             }
 
-            /// The place that the refusal names: how many bytes stand before it.
+            /// The place that the refusal names: how many bytes stand before it. One without fields names none, and gives 0.
             ///
             /// ```
             /// let one_too_many = [0x80, 0x01, 0, 0, 0, 10, 0, 0, 1, 0x7C, 0xFF];
@@ -100,7 +101,7 @@ macro_rules! refusals {
             #[must_use]
             pub const fn offset(&self) -> usize {
                 match *self {
-                    $(Self::$name { offset, .. } => offset,)*
+                    $(Self::$name { $($($field,)*)? } => first(&[$($($field as usize,)*)?]),)*
                     Self::Unlisted { offset, .. } => offset,
                 }
             }
@@ -110,12 +111,17 @@ macro_rules! refusals {
         impl fmt::Display for Refusal {
             fn fmt(&self, f: &mut fmt::Formatter) -> fmt::Result {
                 match *self {
-                    $(Self::$name { $($field,)* } => write!(f, $words),)*
+                    $(Self::$name { $($($field,)*)? } => write!(f, $words),)*
                     Self::Unlisted { offset, number } => write!(f, "refused at byte {offset} by the number {number}"),
                 }
             }
         }
     };
+}
+
+/// The first of a refusal's fields, which is the offset.
+const fn first(fields: &[usize]) -> usize {
+    if let [offset, ..] = fields { *offset } else { 0 }
 }
 
 refusals! {
@@ -198,6 +204,21 @@ refusals! {
         /// How many there are.
         available: usize,
     } "the room is too short at byte {offset}: needed {needed}, available {available}"
+
+    /// A command names an open session twice.
+    13 HandleRepeated "the command names an open session twice"
+
+    /// An answer has another count of sessions than its command.
+    14 CountsDiffer "the answer has another count of sessions than the command"
+
+    /// The session is open already.
+    15 AlreadyOpen "the session is open already"
+
+    /// As many sessions are open as a keeper takes.
+    16 AllOpen "as many sessions are open as there may be"
+
+    /// The session is not open.
+    17 NotOpen "the session is not open"
 }
 
 impl core::error::Error for Refusal {}
@@ -224,7 +245,16 @@ mod tests {
         for number in 1..=120 {
             let refusal = Refusal::new(number, &[0; 8]);
             assert_eq!(refusal.number(), number);
-            assert_eq!(refusal.name() == "Unlisted", number > 9);
+            assert_eq!(refusal.name() == "Unlisted", !matches!(number, 1..=9 | 13..=17));
         }
+    }
+
+    #[test]
+    fn those_of_the_keeper_have_no_fields() {
+        for number in 13..=17 {
+            let refusal = Refusal::new(number, &[7; 8]);
+            assert_eq!((refusal.fields().count(), refusal.offset()), (0, 0));
+        }
+        assert_eq!(Refusal::new(17, &[7; 8]), Refusal::NotOpen);
     }
 }

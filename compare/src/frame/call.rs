@@ -28,7 +28,7 @@ pub enum Kind {
 type Shape = fn(u32, &mut [u8], u32, &mut Kept, &mut Out) -> u32;
 
 /// What a judge says in a call's place; none where it cannot be asked.
-type Says = fn(&Call, u32, &mut [u8], u32, &mut Kept, &mut Out) -> Option<u32>;
+pub type Says = fn(&Call, u32, &mut [u8], u32, &mut Kept, &mut Out) -> Option<u32>;
 
 /// The same without rules, since the crate has those of the Rust reading alone; none where it cannot be asked.
 #[cfg(oracle)]

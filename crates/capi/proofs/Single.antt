@@ -125,6 +125,18 @@ use Rattle.capi.proofs.response.skein_response_parts.Kinds as skein-res
 use Rattle.capi.proofs.response.skein_response_parts.Reads as skein-response-parts-reads
 use Rattle.capi.proofs.response.skein_response_write.Kinds as skein-response-write-kinds
 use Rattle.capi.proofs.response.skein_response_write.Reads as skein-response-write-reads
+use Rattle.capi.proofs.nonce.skein_keeper_new.Kinds as skein-keeper-new-kinds
+use Rattle.capi.proofs.nonce.skein_keeper_new.Reads as skein-keeper-new-reads
+use Rattle.capi.proofs.nonce.skein_keeper_open.Kinds as skein-keeper-open-kinds
+use Rattle.capi.proofs.nonce.skein_keeper_open.Reads as skein-keeper-open-reads
+use Rattle.capi.proofs.nonce.skein_keeper_answer.Kinds as skein-keeper-answer-kinds
+use Rattle.capi.proofs.nonce.skein_keeper_answer.Reads as skein-keeper-answer-reads
+use Rattle.capi.proofs.nonce.skein_keeper_close.Kinds as skein-keeper-close-kinds
+use Rattle.capi.proofs.nonce.skein_keeper_close.Reads as skein-keeper-close-reads
+use Rattle.capi.proofs.nonce.skein_keeper_ask.Kinds as skein-keeper-ask-kinds
+use Rattle.capi.proofs.nonce.skein_keeper_ask.Reads as skein-keeper-ask-reads
+use Rattle.capi.proofs.nonce.skein_keeper_len.Kinds as skein-keeper-len-kinds
+use Rattle.capi.proofs.nonce.skein_keeper_len.Reads as skein-keeper-len-reads
 
 -- two reports of one answer are one
 module _ {A : Type 0} {of : A → List ℕ} {said : Said A} {old s t : List ℕ} {r q : ℕ} where
@@ -339,3 +351,23 @@ skein-response-write-array = record {
     λ i. (tt, (tt, (tt, (tt, (tt, (tt, (tt, ((p .1 ∙ sym (q .1)) i, (array (p .0) (q .0) i, tt))))))))),
   );
 }
+
+-- ---- the nonce keeper
+
+skein-keeper-new : Single 2 skein-keeper-new-kinds.ps skein-keeper-new-kinds.r skein-keeper-new-reads.Post
+skein-keeper-new κs a x y v w p q = (status (p .0) (q .0), λ i. ((p .1 ∙ sym (q .1)) i, (array (p .0) (q .0) i, tt)))
+
+skein-keeper-open : Single 3 skein-keeper-open-kinds.ps skein-keeper-open-kinds.r skein-keeper-open-reads.Post
+skein-keeper-open κs a x y v w p q = (status (p .0) (q .0), λ i. (tt, (tt, ((p .1 ∙ sym (q .1)) i, (array (p .0) (q .0) i, tt)))))
+
+skein-keeper-answer : Single 4 skein-keeper-answer-kinds.ps skein-keeper-answer-kinds.r skein-keeper-answer-reads.Post
+skein-keeper-answer κs a x y v w p q = (status (p .0) (q .0), λ i. (tt, (tt, ((p .1 ∙ sym (q .1)) i, (array (p .0) (q .0) i, tt)))))
+
+skein-keeper-close : Single 2 skein-keeper-close-kinds.ps skein-keeper-close-kinds.r skein-keeper-close-reads.Post
+skein-keeper-close κs a x y v w p q = (status (p .0) (q .0), λ i. (tt, ((p .1 ∙ sym (q .1)) i, (array (p .0) (q .0) i, tt))))
+
+skein-keeper-ask : Single 2 skein-keeper-ask-kinds.ps skein-keeper-ask-kinds.r skein-keeper-ask-reads.Post
+skein-keeper-ask κs a x y v w p q = (status p q, λ i. (tt, (tt, (array p q i, tt))))
+
+skein-keeper-len : Single 2 skein-keeper-len-kinds.ps skein-keeper-len-kinds.r skein-keeper-len-reads.Post
+skein-keeper-len κs a x y v w p q = (status p q, λ i. (tt, (array p q i, tt)))

@@ -11,6 +11,7 @@ pub mod command;
 pub mod dispatch;
 pub mod field;
 pub mod header;
+pub mod nonce;
 mod out;
 pub mod response;
 mod rules;

@@ -23,7 +23,7 @@ use Rattle.table.specs.declared.row.Row.{Row}
 use Rattle.frame.specs.declared.areas.Areas.{Areas}
 use Rattle.frame.specs.declared.command.Command.{Command}
 use Rattle.frame.specs.declared.session.Session.{Session}
-use Rattle.frame.specs.Answer.{commandOf, frameOf, commandByValue}
+use Rattle.frame.specs.Answer.{commandOf, frameOf, commandByValue, Signed, signed}
 use Rattle.frame.specs.Areas.{sizedArea}
 use Rattle.frame.specs.Command.{Division, commandHandles, commandAreas, judgeCommand, castCommand, readCommand, handlesRange, authRange, parametersRange}
 use Rattle.frame.specs.Header.{tagOf, sizeOf, codeOf, sessions, isOfTwo, readCc, frameWhole, readCommandTag}
@@ -32,7 +32,7 @@ use Rattle.frame.specs.Parts.{ranged, Kept, EachField, entriesIn, entrie
 use Rattle.frame.specs.Rules.{Rulebook}
 use Rattle.frame.specs.Walk.{walk, byValue}
 use Rattle.frame.proofs.Divides.{Divides, divides-by-value}
-use Rattle.frame.proofs.Divisions.{entries-of}
+use Rattle.frame.proofs.Divisions.{entries-of, signed-of}
 use Rattle.frame.proofs.FrameLaws.{
   code-fits,
   size-fits,
@@ -215,17 +215,32 @@ module _ (book : Rulebook) where
       subst (λ (c : Command). heldAt (c .auth) s ≡ layoutEntries 4 (commandParts s c .entries)) (gives-injective (read .2))
       (between-at (d .areas .to) (stand .0) (stand .1) ∙ ap (λ (es : List Session). layoutEntries 4 (entriesIn s es)) (sym (all-entries s d t)))
 
-  -- the nonces and HMACs that are given back are within the limit, and lie within the frame
+  -- a division has at most three entries, and their nonces and HMACs are within the limit and lie within the frame
+  pub command-division-fields : (s : List ℕ) (d : Division) → readCommand book s ≡ gives d
+      → (length (d .entries) ≤ 3) × EachField (Kept (book .longest) (length s)) (d .entries)
+  command-division-fields s d e =
+      let walked = steps-taken s d e .walked in
+      let short = length-take (d .areas .to) s in
+      let kept = walk-inside (book .longest) 3 4 (take (d .areas .to) s) (d .areas .from) walked in (
+        walk-few (book .longest) 3 4 (take (d .areas .to) s) (d .areas .from) walked,
+        each-field (λ f k. let end = k .1 in (k .0, omega arith)) (d .entries) kept,
+      )
+
+  -- and so of what is given back
   pub command-fields : (s : List ℕ) (c : Command) → commandByValue s (readCommand book s) ≡ gives c
       → EachField (Kept (book .longest) (length s)) (entriesOf (c .entries))
   command-fields s c e =
       let read = then-gives (readCommand book s) _ e in
-      let d : Division = read .0 in
-      let t = steps-taken s d (read .1) in
-      let short = length-take (d .areas .to) s in
-      let kept = walk-inside (book .longest) 3 4 (take (d .areas .to) s) (d .areas .from) (t .walked) in
+      let fields = command-division-fields s (read .0) (read .1) in
       subst (λ (c : Command). EachField (Kept (book .longest) (length s)) (entriesOf (c .entries))) (gives-injective (read .2))
-      (rw (all-entries s d t) (each-field (λ f k. let end = k .1 in (k .0, omega arith)) (d .entries) kept))
+      (rw (entries-of (read .0 .entries) (fields .0)) (fields .1))
+
+  -- what is said of a command's sessions is of its division
+  pub signed-command : (s : List ℕ) (x : Signed) → signed s (readCommand book s) ≡ gives x
+      → (d : Division) × (readCommand book s ≡ gives d) × (length (d .entries) ≤ 3) × (x ≡ record { code = codeOf s; entries = byValue (d .entries) })
+  signed-command s x e =
+      let found = signed-of s (readCommand book s) e in
+      (found .0, found .1, command-division-fields s (found .0) (found .1) .0, found .2)
 
   -- the three reads of one area give the areas of a passing command
   pub command-ranges : (s : List ℕ) (c : Command) → commandByValue s (readCommand book s) ≡ gives c

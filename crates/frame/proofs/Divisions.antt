@@ -18,12 +18,12 @@ use Rattle.table.specs.declared.row.Row.{Row}
 use Rattle.frame.specs.declared.areas.Areas.{Areas}
 use Rattle.frame.specs.declared.session.Session.{Session}
 use Rattle.frame.specs.declared.session.Entries.{Entries}
-use Rattle.frame.specs.Answer.{areasOf, entriesByValue, frameOf}
+use Rattle.frame.specs.Answer.{areasOf, entriesByValue, frameOf, Signed, signed}
 use Rattle.frame.specs.Areas.{handleArea, sizedArea}
-use Rattle.frame.specs.Command.{Division, commandHandles, commandAreas, judgeCommand, castCommand}
+use Rattle.frame.specs.Command.{Division, commandHandles, commandAreas, judgeCommand, castCommand, readCommand}
 use Rattle.frame.specs.Header.{tagOf, codeOf, sessions, plain, isRspCommand, readCc, frameWhole, readCommandTag}
 use Rattle.frame.specs.Parts.{entriesOf}
-use Rattle.frame.specs.Response.{castResponse, errorAreas, successAreas, responseAreas}
+use Rattle.frame.specs.Response.{castResponse, errorAreas, successAreas, responseAreas, readResponse}
 use Rattle.frame.specs.declared.rules.Reading.{Reading}
 use Rattle.frame.specs.declared.rules.Reading.the-variants as reading
 use Rattle.frame.specs.declared.rules.Rules.{Rules}
@@ -227,6 +227,49 @@ module _ (areas : Said Areas) (entries : Areas → Said (List Session)) where
       let is : a ≡ found .0 = d .2 ∙ ap (λ (d : Division). d .areas) (sym (gives-injective (es .2))) in
       (ap gives is ∙ sym (found .1), ap (λ (a : Areas). done (entries a)) is ∙ ap done (es .1))
 
+-- what is known where a read told its areas: they were found in bytes with a header, the entries pass with no limit too, and read so they are
+-- those of the read
+pub record Told (s : List ℕ) (areas : Said Areas) (entries : Said (List Session)) (read : Said Division) (a : Areas) : Type 0 where
+  pub found : gives a ≡ areas
+  pub header-there : 10 ≤ length s
+  pub pass : done entries ≡ gives tt
+  pub again : {es : Entries} → gives es ≡ entriesByValue entries
+      → (ds : List Session) × (es ≡ byValue ds) × (gives (record { areas = a; entries = ds }) ≡ read)
+
+-- of areas and then a walk with a limit, where another walk tells the same
+told-of : (s : List ℕ) (areas : Said Areas) (limited entries : Areas → Said (List Session)) {a : Areas}
+    → (gives a ≡ areas → 10 ≤ length s)
+    → (done (limited a) ≡ gives tt → entries a ≡ limited a)
+    → gives a ≡ areasOf (divided areas limited) → Told s areas (entries a) (divided areas limited) a
+told-of s areas limited entries header same told =
+    let parts = parts-of areas limited told in
+    let alike = same (parts .1) in
+    record {
+      found = parts .0;
+      header-there = header (parts .0);
+      pass = ap done alike ∙ parts .1;
+      again = λ read. walk-read areas limited (parts .0) (read ∙ ap entriesByValue alike);
+    }
+
+module _ (rules : Rules) where
+  abbrev pub CommandTold : List ℕ → Areas → Type 0
+  CommandTold s a = Told s (castCommand (bookOf rules) s) (commandEntries unlimited s a) (readCommand (bookOf rules) s) a
+
+  pub command-told : (s : List ℕ) {a : Areas} → gives a ≡ areasOf (readCommand (bookOf rules) s) → CommandTold s a
+  unfolding readCommand
+  command-told s {a} =
+      told-of s (castCommand (bookOf rules) s) (commandEntries (bookOf rules .longest) s) (commandEntries unlimited s)
+      (λ found. cast-fits (bookOf rules) s found .0) (without-limit rules 3 4 (take (a .to) s) (a .from))
+
+  abbrev pub ResponseTold : ℕ → List ℕ → Areas → Type 0
+  ResponseTold cc s a = Told s (responseAreas (bookOf rules) cc s) (responseEntries unlimited s a) (readResponse (bookOf rules) cc s) a
+
+  pub response-told : (cc : ℕ) (s : List ℕ) {a : Areas} → gives a ≡ areasOf (readResponse (bookOf rules) cc s) → ResponseTold cc s a
+  unfolding readResponse
+  response-told cc s {a} =
+      told-of s (responseAreas (bookOf rules) cc s) (responseEntries (bookOf rules .longest) s) (responseEntries unlimited s)
+      (read-header (bookOf rules) s cc) (without-limit rules 3 0 s (a .to))
+
 -- areas and entries of what was divided; and another walk that tells the same entries divides it the same
 module _ (areas : Said Areas) (entries : Areas → Said (List Session)) {d : Division} (e : divided areas entries ≡ gives d) where
   pub both-told : (areas ≡ gives (d .areas)) × (entries (d .areas) ≡ gives (d .entries))
@@ -251,6 +294,17 @@ pub by-value : {B : Type 0} (of : ℕ → ℕ → ℕ → Areas → Entries → 
     → gives (record { areas = a; entries = ds }) ≡ read → {tag code : ℕ} {es : Entries} → tag ≡ tagOf s → code ≡ codeOf s → es ≡ byValue ds
     → gives (of tag code (length s) a es) ≡ then read (λ d. gives (frameOf of s d))
 by-value of s read {a} e tag-is code-is es-are = (λ i. gives (of (tag-is i) (code-is i) (length s) a (es-are i))) ∙ goes-on read _ e
+
+-- what is said of sessions of a division that was read; and the division that it was said of
+pub signed-read : (s : List ℕ) (read : Said Division) {a : Areas} {ds : List Session} → gives (record { areas = a; entries = ds }) ≡ read
+    → {code : ℕ} {es : Entries} → code ≡ codeOf s → es ≡ byValue ds → gives (record { code = code; entries = es }) ≡ signed s read
+signed-read s read e code-is es-are = (λ i. gives (record { code = code-is i; entries = es-are i })) ∙ goes-on read _ e
+
+pub signed-of : (s : List ℕ) (read : Said Division) {x : Signed} → signed s read ≡ gives x
+    → (d : Division) × (read ≡ gives d) × (x ≡ record { code = codeOf s; entries = byValue (d .entries) })
+signed-of s read e =
+    let found = then-gives read _ e in
+    (found .0, found .1, sym (gives-injective (found .2)))
 
 -- as many entries as are counted are all of at most three
 pub entries-of : (es : List Session) → length es ≤ 3 → entriesOf (byValue es) ≡ es

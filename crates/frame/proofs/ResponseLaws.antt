@@ -22,7 +22,7 @@ use Rattle.table.specs.declared.row.Row.{Row}
 use Rattle.frame.specs.declared.areas.Areas.{Areas}
 use Rattle.frame.specs.declared.response.Response.{Response}
 use Rattle.frame.specs.declared.session.Session.{Session}
-use Rattle.frame.specs.Answer.{responseOf, frameOf, responseByValue}
+use Rattle.frame.specs.Answer.{responseOf, frameOf, responseByValue, Signed, signed}
 use Rattle.frame.specs.Areas.{handleArea, sizedArea}
 use Rattle.frame.specs.Command.{Division}
 use Rattle.frame.specs.Header.{tagOf, sizeOf, codeOf, plain, sessions, isRspCommand, reads, isResponseTag, readRc, frameWhole, readResponseTag}
@@ -43,7 +43,7 @@ use Rattle.frame.specs.Rules.{Rulebook}
 use Rattle.frame.specs.Walk.{walk, byValue}
 use Rattle.frame.proofs.BadTags.{success-reads, success-two, error-parted, erring}
 use Rattle.frame.proofs.Divides.{Divides, divides-by-value}
-use Rattle.frame.proofs.Divisions.{entries-of}
+use Rattle.frame.proofs.Divisions.{entries-of, signed-of}
 use Rattle.frame.proofs.FrameLaws.{
   code-fits,
   size-fits,
@@ -282,15 +282,28 @@ module _ (book : Rulebook) (cc : ℕ) where
       subst (λ (r : Response). heldAt (r .auth) s ≡ layoutEntries 0 (responseParts s r .entries)) (gives-injective (read .2))
       (between-at (length s) (walked .0) (walked .1) ∙ ap (λ (es : List Session). layoutEntries 0 (entriesIn s es)) (sym (all-entries s d t)))
 
-  -- the nonces and HMACs that are given back are within the limit, and lie within the frame
+  -- a division has at most three entries, and their nonces and HMACs are within the limit and lie within the frame
+  pub response-division-fields : (s : List ℕ) (d : Division) → readResponse book cc s ≡ gives d
+      → (length (d .entries) ≤ 3) × EachField (Kept (book .longest) (length s)) (d .entries)
+  response-division-fields s d e =
+      let walked = steps-taken s d e .walked in
+      (walk-few (book .longest) 3 0 s (d .areas .to) walked, walk-inside (book .longest) 3 0 s (d .areas .to) walked)
+
+  -- and so of what is given back
   pub response-fields : (s : List ℕ) (r : Response) → responseByValue s (readResponse book cc s) ≡ gives r
       → EachField (Kept (book .longest) (length s)) (entriesOf (r .entries))
   response-fields s r e =
       let read = then-gives (readResponse book cc s) _ e in
-      let d : Division = read .0 in
-      let t = steps-taken s d (read .1) in
+      let fields = response-division-fields s (read .0) (read .1) in
       subst (λ (r : Response). EachField (Kept (book .longest) (length s)) (entriesOf (r .entries))) (gives-injective (read .2))
-      (rw (all-entries s d t) (walk-inside (book .longest) 3 0 s (d .areas .to) (t .walked)))
+      (rw (entries-of (read .0 .entries) (fields .0)) (fields .1))
+
+  -- what is said of a response's sessions is of its division
+  pub signed-response : (s : List ℕ) (x : Signed) → signed s (readResponse book cc s) ≡ gives x
+      → (d : Division) × (readResponse book cc s ≡ gives d) × (length (d .entries) ≤ 3) × (x ≡ record { code = codeOf s; entries = byValue (d .entries) })
+  signed-response s x e =
+      let found = signed-of s (readResponse book cc s) e in
+      (found .0, found .1, response-division-fields s (found .0) (found .1) .0, found .2)
 
   pub response-sound : (s : List ℕ) → AreBytes s → (d : Division) → readResponse book cc s ≡ gives d
       → ResponseParts book cc (parts s d) × (layoutResponse (parts s d) ≡ s)

@@ -16,9 +16,13 @@ use Rattle.base.proofs.Answers.{
 use Rattle.base.proofs.Parts.{same-part}
 use Rattle.frame.specs.declared.command.CommandRead.{CommandRead}
 use Rattle.frame.specs.declared.command.CommandRead.the-variants as command
+use Rattle.frame.specs.declared.command.CommandSessions.{CommandSessions}
+use Rattle.frame.specs.declared.command.CommandSessions.the-variants as command-signed
 use Rattle.frame.specs.declared.response.ResponseRead.{ResponseRead}
 use Rattle.frame.specs.declared.response.ResponseRead.the-variants as response
-use Rattle.frame.specs.Answer.{saidCommand, saidResponse}
+use Rattle.frame.specs.declared.response.ResponseSessions.{ResponseSessions}
+use Rattle.frame.specs.declared.response.ResponseSessions.the-variants as response-signed
+use Rattle.frame.specs.Answer.{saidCommand, saidResponse, Signed, saidCommandSessions, saidResponseSessions}
 use Rattle.frame.proofs.rules.longest.Kinds as rules-longest-kinds
 use Rattle.frame.proofs.rules.longest.Reads as rules-longest-reads
 use Rattle.frame.proofs.session.Entries.new.Kinds as entries-new-kinds
@@ -75,6 +79,8 @@ use Rattle.frame.proofs.command.validate.Kinds as command-validate-kind
 use Rattle.frame.proofs.command.validate.Reads as command-validate-reads
 use Rattle.frame.proofs.command.parts.Kinds as command-parts-kinds
 use Rattle.frame.proofs.command.parts.Reads as command-parts-reads
+use Rattle.frame.proofs.command.sessions.Kinds as command-sessions-kinds
+use Rattle.frame.proofs.command.sessions.Reads as command-sessions-reads
 use Rattle.frame.proofs.response.rc.Kinds as response-rc-kinds
 use Rattle.frame.proofs.response.rc.Reads as response-rc-reads
 use Rattle.frame.proofs.response.set_rc.Kinds as response-set-rc-kinds
@@ -105,6 +111,8 @@ use Rattle.frame.proofs.response.validate.Kinds as response-validate-ki
 use Rattle.frame.proofs.response.validate.Reads as response-validate-reads
 use Rattle.frame.proofs.response.parts.Kinds as response-parts-kinds
 use Rattle.frame.proofs.response.parts.Reads as response-parts-reads
+use Rattle.frame.proofs.response.sessions.Kinds as response-sessions-kinds
+use Rattle.frame.proofs.response.sessions.Reads as response-sessions-reads
 
 told-command : (a : CommandRead) → unsaid command.Is command.Refused (saidCommand a) ≡ a
 told-command (command.Is c) = refl
@@ -119,6 +127,26 @@ told-response (response.Refused e) = ap response.Refused (named-numbered e)
 
 pub saidResponse-injective : (a b : ResponseRead) → saidResponse a ≡ saidResponse b → a ≡ b
 saidResponse-injective = injective-by saidResponse (unsaid response.Is response.Refused) told-response
+
+abbrev commandSessionsOf : Signed → CommandSessions
+commandSessionsOf x = command-signed.Is (record { 0 = x .code }) (x .entries)
+
+told-command-sessions : (a : CommandSessions) → unsaid commandSessionsOf command-signed.Refused (saidCommandSessions a) ≡ a
+told-command-sessions (command-signed.Is cc entries) = refl
+told-command-sessions (command-signed.Refused e) = ap command-signed.Refused (named-numbered e)
+
+pub saidCommandSessions-injective : (a b : CommandSessions) → saidCommandSessions a ≡ saidCommandSessions b → a ≡ b
+saidCommandSessions-injective = injective-by saidCommandSessions (unsaid commandSessionsOf command-signed.Refused) told-command-sessions
+
+abbrev responseSessionsOf : Signed → ResponseSessions
+responseSessionsOf x = response-signed.Is (record { 0 = x .code }) (x .entries)
+
+told-response-sessions : (a : ResponseSessions) → unsaid responseSessionsOf response-signed.Refused (saidResponseSessions a) ≡ a
+told-response-sessions (response-signed.Is rc entries) = refl
+told-response-sessions (response-signed.Refused e) = ap response-signed.Refused (named-numbered e)
+
+pub saidResponseSessions-injective : (a b : ResponseSessions) → saidResponseSessions a ≡ saidResponseSessions b → a ≡ b
+saidResponseSessions-injective = injective-by saidResponseSessions (unsaid responseSessionsOf response-signed.Refused) told-response-sessions
 
 -- ---- rules and header
 
@@ -208,6 +236,9 @@ command-validate κs a x y v w p q = (saidOutcome-injective x y (p ∙ sym q), r
 command-parts : Single 1 command-parts-kinds.ps command-parts-kinds.r command-parts-reads.Post
 command-parts κs a x y v w p q = (saidCommand-injective x y (p ∙ sym q), refl)
 
+command-sessions : Single 1 command-sessions-kinds.ps command-sessions-kinds.r command-sessions-reads.Post
+command-sessions κs a x y v w p q = (saidCommandSessions-injective x y (p ∙ sym q), refl)
+
 -- ---- responses
 
 response-rc : Single 1 response-rc-kinds.ps response-rc-kinds.r response-rc-reads.Post
@@ -254,3 +285,6 @@ response-validate κs a x y v w p q = (saidOutcome-injective x y (p ∙ sym q), 
 
 response-parts : Single 1 response-parts-kinds.ps response-parts-kinds.r response-parts-reads.Post
 response-parts κs a x y v w p q = (saidResponse-injective x y (p ∙ sym q), refl)
+
+response-sessions : Single 1 response-sessions-kinds.ps response-sessions-kinds.r response-sessions-reads.Post
+response-sessions κs a x y v w p q = (saidResponseSessions-injective x y (p ∙ sym q), refl)

@@ -16,9 +16,13 @@ use Rattle.frame.specs.declared.session.Entries.{Entries}
 use Rattle.frame.specs.declared.command.Command.{Command}
 use Rattle.frame.specs.declared.command.CommandRead.{CommandRead}
 use Rattle.frame.specs.declared.command.CommandRead.the-variants as command
+use Rattle.frame.specs.declared.command.CommandSessions.{CommandSessions}
+use Rattle.frame.specs.declared.command.CommandSessions.the-variants as command-signed
 use Rattle.frame.specs.declared.response.Response.{Response}
 use Rattle.frame.specs.declared.response.ResponseRead.{ResponseRead}
 use Rattle.frame.specs.declared.response.ResponseRead.the-variants as response
+use Rattle.frame.specs.declared.response.ResponseSessions.{ResponseSessions}
+use Rattle.frame.specs.declared.response.ResponseSessions.the-variants as response-signed
 use Rattle.frame.specs.Command.{Division}
 use Rattle.frame.specs.Header.{tagOf, codeOf}
 use Rattle.frame.specs.Walk.{behind, byValue}
@@ -82,6 +86,25 @@ commandByValue s division = then division λ d. gives (frameOf commandOf s d)
 
 abbrev pub responseByValue : List ℕ → Said Division → Said Response
 responseByValue s division = then division λ d. gives (frameOf responseOf s d)
+
+-- what a frame says of sessions: its code, and its entries by value
+pub record Signed : Type 0 where
+  pub code : ℕ
+  pub entries : Entries
+
+-- that of a division of some bytes
+abbrev pub signed : List ℕ → Said Division → Said Signed
+signed s division = then division λ d. gives (record { code = codeOf s; entries = byValue (d .entries) })
+
+-- a command's answer in these terms
+abbrev pub saidCommandSessions : CommandSessions → Said Signed
+saidCommandSessions (command-signed.Is cc entries) = gives (record { code = cc .0; entries = entries })
+saidCommandSessions (command-signed.Refused e) = refuses (numbered e)
+
+-- a response's answer in these terms
+abbrev pub saidResponseSessions : ResponseSessions → Said Signed
+saidResponseSessions (response-signed.Is rc entries) = gives (record { code = rc .0; entries = entries })
+saidResponseSessions (response-signed.Refused e) = refuses (numbered e)
 
 -- ---- ranges of lent bytes
 

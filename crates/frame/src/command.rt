@@ -5,7 +5,7 @@ ghost use lib.ListN.{length};
 ghost use Rattle.base.specs.Answer.{saidCommandCode, saidCount, saidOutcome, saidRange};
 ghost use Rattle.base.specs.Parts.{IsPart, Ties, behind, upTo};
 ghost use Rattle.base.specs.Said.{after, done};
-ghost use Rattle.frame.specs.Answer.{areasOf, commandByValue, saidAreas, saidCommand, whole};
+ghost use Rattle.frame.specs.Answer.{areasOf, commandByValue, saidAreas, saidCommand, saidCommandSessions, signed, whole};
 ghost use Rattle.frame.specs.Command.{authRange, castCommand, castCommandPrefix, commandAreas, commandHandles, handlesRange, judgeCommand, parametersRange, readCommand};
 ghost use Rattle.frame.specs.Header.{readCc, setCc};
 ghost use Rattle.frame.specs.Rules.{bookOf};
@@ -56,6 +56,12 @@ pub struct Command {
 
 pub enum CommandRead {
     Is(Command),
+    Refused(TpmError),
+}
+
+// What a passing command says of sessions: its code, and its entries.
+pub enum CommandSessions {
+    Is { cc: TpmCc, entries: Entries },
     Refused(TpmError),
 }
 
@@ -348,6 +354,22 @@ pub fn parts(rules: Rules, s: &[u8]) -> CommandRead
                 },
                 entries: entries(true, &s[..to], from),
             })
+        }
+    }
+}
+
+// Code and entries of a passing command, for those who need no more.
+pub fn sessions(rules: Rules, s: &[u8]) -> CommandSessions
+    ensures { λ r. ⌜ saidCommandSessions r ≡ signed (now (s .entry)) (readCommand (bookOf rules) (now (s .entry))) ⌝ }
+{
+    match divide(rules, s) {
+        Divided::Refused(e) => CommandSessions::Refused(e),
+        Divided::Is(a) => {
+            let to = a.to;
+            CommandSessions::Is {
+                cc: TpmCc(be32(s[6], s[7], s[8], s[9])),
+                entries: entries(true, &s[..to], a.from),
+            }
         }
     }
 }

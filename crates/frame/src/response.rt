@@ -6,7 +6,7 @@ ghost use lib.ListN.{length};
 ghost use Rattle.base.specs.Answer.{saidOutcome, saidRange, saidResponseCode};
 ghost use Rattle.base.specs.Parts.{IsPart, Ties, behind, upTo};
 ghost use Rattle.base.specs.Said.{after, done};
-ghost use Rattle.frame.specs.Answer.{areasOf, responseByValue, saidAreas, saidResponse, whole};
+ghost use Rattle.frame.specs.Answer.{areasOf, responseByValue, saidAreas, saidResponse, saidResponseSessions, signed, whole};
 ghost use mathlib.Core.Bool.{_||_};
 ghost use lib.Dec.{eqb};
 ghost use Rattle.frame.specs.Header.{isRspCommand, plain, reads, readRc, setRc};
@@ -64,6 +64,12 @@ pub struct Response {
 
 pub enum ResponseRead {
     Is(Response),
+    Refused(TpmError),
+}
+
+// What a passing response says of sessions: its code, and its entries.
+pub enum ResponseSessions {
+    Is { rc: TpmRc, entries: Entries },
     Refused(TpmError),
 }
 
@@ -343,5 +349,21 @@ pub fn parts(rules: Rules, cc: TpmCc, s: &[u8]) -> ResponseRead
             },
             entries: entries(false, s, a.to),
         }),
+    }
+}
+
+// Code and entries of a passing response, for those who need no more.
+pub fn sessions(rules: Rules, cc: TpmCc, s: &[u8]) -> ResponseSessions
+    ensures { λ r. ⌜ saidResponseSessions r ≡ signed (now (s .entry)) (readResponse (bookOf rules) (cc .0) (now (s .entry))) ⌝ }
+{
+    match divide(rules, cc, s) {
+        Divided::Refused(e) => ResponseSessions::Refused(e),
+        Divided::Is(a) => {
+            let to = a.to;
+            ResponseSessions::Is {
+                rc: TpmRc(be32(s[6], s[7], s[8], s[9])),
+                entries: entries(false, s, to),
+            }
+        }
     }
 }

@@ -1,0 +1,10 @@
+pub mod Calls
+pub mod Exchanges
+pub mod Found
+pub mod Laws
+pub mod Moves
+pub mod Places
+pub mod Runs
+pub mod Sessions
+pub mod Settles
+pub mod Single

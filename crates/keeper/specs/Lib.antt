@@ -1,0 +1,4 @@
+pub mod History
+pub mod Keeper
+pub mod Refusal
+pub mod State
