@@ -1,5 +1,6 @@
 pub mod Arrays
 pub mod Fields
+pub mod Keepers
 pub mod Laid
 pub mod Numbered
 pub mod Reported

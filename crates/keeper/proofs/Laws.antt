@@ -1,25 +1,25 @@
 -- What is promised of the keeper, for a reviewer: each call does as its history event says, and what a history tells is what is kept.
 -- Assumes nothing.
 use mathlib.Core.Path.{_≡_, refl, sym, _∙_, ap}
-use mathlib.Core.Bool.{Bool, true, false, not, _||_, cond, false≢true}
+use mathlib.Core.Bool.{Bool, true, false, not, _&&_, _||_, cond, false≢true}
 use mathlib.Core.List.{List, [], _∷_}
 use mathlib.Core.Logic.{_↔_}
-use Prim.Native.Nat.{ℕ, zero, suc, _-_, _≤_, _<_}
+use Prim.Native.Nat.{ℕ, zero, suc, _+_, _-_, _≤_, _<_}
 use native.Mathlib.Omega.{arith}
-use borrow.Author.Tests.{eqb-true, le-leb, le-ltb, leb-true, leb-false, ltb-true, ltb-false, not-true}
+use borrow.Author.Tests.{eq-eqb, le-leb, le-ltb, leb-true, ltb-false}
 use borrow.Fn.Kinds.{Dens, resT, endedOf}
 use contract.Lifetimes.{Lfts}
 use denote.Ref.{now}
 use denote.Triple.Clauses.{Lasts, atExit}
 use lib.Dec.{eqb, leb, ltb}
-use lib.ListN.{length, getD, replicate}
+use lib.ListN.{length, getD, set, replicate}
 use Rattle.base.specs.Said.{Said, gives, refuses, needs, then, given, done, after}
 use Rattle.base.proofs.Checks.{needs-gives, gives-injective, refuses-injective, gives≢refuses}
 use Rattle.frame.specs.declared.session.Session.{Session}
 use Rattle.frame.specs.Parts.{fieldIn}
 use Rattle.frame.specs.Walk as walked
 use Rattle.keeper.specs.Keeper.{Open, session, alreadyOpen, allOpen, notOpen, isOpen, asked, opened, closed, Exchange, exchange, isNamed, repeated, moves, moving, moved, answered}
-use Rattle.keeper.specs.State.{held, openedIn, closedIn, movedIn, answeredIn, askedIn, bytesOf}
+use Rattle.keeper.specs.State.{countOf, held, placeOf, put, shifted, openedIn, closedIn, movedIn, answeredIn, bytesOf}
 use Rattle.keeper.specs.History.{Call, opening, answering, closing, asking, counting, silently, says, leaves, Event, Fits, Ran, fresh, next, movesOf, lastOf, changed, told, recount, openTold, isAmong, names}
 use Rattle.keeper.specs.Refusal.{saidOutcome, saidAsked}
 use Rattle.keeper.proofs.Exchanges.{moving-told}
@@ -74,3 +74,148 @@ ask-says κs a x v met = met .0
 pub len-says : (κs : Lfts 1) (a : Dens κs len-kinds.ps) (x : resT len-kinds.r κs .Denot) (v : Lasts (endedOf 1 len-kinds.ps len-kinds.r) κs a)
     → len-reads.Post κs a x (atExit (endedOf 1 len-kinds.ps len-kinds.r) κs a v) → gives (x ∷ []) ≡ says counting (held (now (a .0)))
 len-says κs a x v met = ap (λ (n : ℕ). gives (n ∷ [])) met
+
+-- ---- the theorem of the keeper: after any run from a new one, what is answered for a handle is what the history tells of it
+
+pub keeper-tells : (past : List Event) (s : List ℕ) → Ran past s → (handle : ℕ) → says (asking handle) (held s) ≡ told handle past
+keeper-tells = kept-told
+
+-- a handle is open exactly when the history tells a nonce for it
+pub open-told : (past : List Event) (s : List ℕ) → Ran past s → (handle : ℕ) → isOpen handle (held s) ≡ given (told handle past)
+open-told past s ran handle = open-answers handle (held s) ∙ ap given (kept-told past s ran handle)
+
+-- two runs with the same calls and the same answers keep the same
+pub alike : (past : List Event) (s other : List ℕ) → Ran past s → Ran past other → (handle : ℕ) → asked handle (held s) ≡ asked handle (held other)
+alike past s other ran runs handle = kept-told past s ran handle ∙ sym (kept-told past other runs handle)
+
+-- as many are open as the history tells
+pub count-told : (past : List Event) (s : List ℕ) → Ran past s → length (held s) ≡ openTold past
+unfolding openTold
+count-told [] s fresh = ap length none-held
+count-told (e ∷ past) s (next {s = before} ran call fits) =
+    length-after before (ran-sound past before ran) call fits
+    ∙ ap (λ (n : ℕ). cond (given (says call (held before))) (recount call n) n) (count-told past before ran)
+
+-- ---- 16 exactly when 64 are open, for a handle that is not, with a nonce that is not too long
+
+module _ (handle : ℕ) (nonce : List ℕ) (xs : List Open) (most : length xs ≤ 64) where
+  full-tests : opened handle nonce xs ≡ refuses allOpen → (isOpen handle xs ≡ false) × (length nonce ≤ 64) × (length xs ≡ 64)
+  unfolding opened
+  full-tests e = by (isOpen handle xs) refl (leb (length nonce) 64) refl (ltb (length xs) 64) refl e
+    where
+      by : (a : Bool) → isOpen handle xs ≡ a → (b : Bool) → leb (length nonce) 64 ≡ b → (c : Bool) → ltb (length xs) 64 ≡ c
+          → needs (not a) alreadyOpen (needs b (8 ∷ 0 ∷ 64 ∷ length nonce ∷ []) (needs c allOpen (gives (session handle nonce ∷ xs)))) ≡ refuses allOpen
+          → (isOpen handle xs ≡ false) × (length nonce ≤ 64) × (length xs ≡ 64)
+      by true a b e c f told = absurd (let same : _≡_ {A = ℕ} 15 16 = ap (λ (l : List ℕ). getD l 0 0) (refuses-injective told) in omega arith)
+      by false a false e c f told = absurd (let same : _≡_ {A = ℕ} 8 16 = ap (λ (l : List ℕ). getD l 0 0) (refuses-injective told) in omega arith)
+      by false a true e true f told = absurd (gives≢refuses told)
+      by false a true e false f told = (a, leb-true (length nonce) 64 e, (let many = ltb-false (length xs) 64 f in omega arith))
+
+  full-given : (isOpen handle xs ≡ false) × (length nonce ≤ 64) × (length xs ≡ 64) → opened handle nonce xs ≡ refuses allOpen
+  unfolding opened
+  full-given t = let all = t .2 in rw (t .0, le-leb (length nonce) 64 (t .1), le-ltb (length xs) 64 (omega arith)) refl
+
+  pub full-exactly : (opened handle nonce xs ≡ refuses allOpen) ↔ ((isOpen handle xs ≡ false) × (length nonce ≤ 64) × (length xs ≡ 64))
+  full-exactly = (full-tests, full-given)
+
+-- in a run, by the history
+pub full-told : (past : List Event) (s : List ℕ) → Ran past s → (handle : ℕ) (nonce : List ℕ)
+    → (opened handle nonce (held s) ≡ refuses allOpen) ↔ ((given (told handle past) ≡ false) × (length nonce ≤ 64) × (openTold past ≡ 64))
+full-told past s ran handle nonce =
+    let most : length (held s) ≤ 64 = rw (length-held s) (count-most s) in
+    let both = full-exactly handle nonce (held s) most in (
+      (λ e. let t = both .0 e in (sym (open-told past s ran handle) ∙ t .0, t .1, sym (count-told past s ran) ∙ t .2)),
+      (λ t. both .1 (open-told past s ran handle ∙ t .0, t .1, count-told past s ran ∙ t .2)),
+    )
+
+-- ---- what moves nothing, whatever the bytes
+
+untouched : (s later : List ℕ) (said : Said (List Open)) → given (silently said) ≡ false → after s (then said λ xs. gives later) ≡ s
+untouched s later (gives xs) e = absurd (false≢true (sym e))
+untouched s later (refuses why) e = refl
+
+-- a refused call
+pub refused-leaves : (call : Call) (s : List ℕ) → given (says call (held s)) ≡ false → leaves call s ≡ s
+unfolding openedIn closedIn answeredIn answered
+refused-leaves (opening handle nonce) s e = untouched s (set (put (countOf s) handle nonce s) 0 (countOf s + 1)) (opened handle nonce (held s)) e
+refused-leaves (answering command response) s e = by (moving command response (held s)) e
+  where
+    by : (said : Said (List Open)) → given (silently (then said λ ms. gives (moved ms (held s)))) ≡ false → after s (then said λ ms. gives (movedIn ms s)) ≡ s
+    by (gives xs) e = absurd (false≢true (sym e))
+    by (refuses why) e = refl
+refused-leaves (closing handle) s e = untouched s (set (shifted (countOf s - 1) (placeOf s handle - 1) s) 0 (countOf s - 1)) (closed handle (held s)) e
+refused-leaves (asking handle) s e = refl
+refused-leaves counting s e = refl
+
+-- an error response that passes, which is accepted
+pub error-leaves : (command response s : List ℕ) (e : Exchange) → exchange command response ≡ gives e → e .success ≡ false
+    → (says (answering command response) (held s) ≡ gives []) × (leaves (answering command response) s ≡ s)
+unfolding answered answeredIn moving moved movedIn
+error-leaves command response s e is error = rw (is, error) (refl, refl)
+
+-- what is kept for a handle that the call does not name
+unnamed-last : (handle : ℕ) (ms : List Open) → isAmong handle ms ≡ false → (before : List ℕ) → lastOf handle ms before ≡ before
+unfolding isAmong lastOf
+unnamed-last handle [] e before = refl
+unnamed-last handle (m ∷ ms) e before = by (eqb (m .handle) handle) e (unnamed-last handle ms)
+  where
+    by : (b : Bool) → (b || isAmong handle ms) ≡ false → (isAmong handle ms ≡ false → (old : List ℕ) → lastOf handle ms old ≡ old)
+        → lastOf handle ms (cond b (m .nonce) before) ≡ before
+    by true e rest = absurd (false≢true (sym e))
+    by false e rest = rest e before
+
+unnamed-same : (handle : ℕ) (call : Call) (before : Said (List ℕ)) → names handle call ≡ false → changed handle call before ≡ before
+unnamed-same handle (opening other nonce) before e = rw e refl
+unnamed-same handle (answering command response) (gives nonce) e = ap gives (unnamed-last handle (movesOf response (exchange command response)) e nonce)
+unnamed-same handle (answering command response) (refuses why) e = refl
+unnamed-same handle (closing other) before e = rw e refl
+unnamed-same handle (asking other) before e = refl
+unnamed-same handle counting before e = refl
+
+pub others-stay : (past : List Event) (s : List ℕ) → Ran past s → (call : Call) → Fits call → (handle : ℕ) → names handle call ≡ false
+    → asked handle (held (leaves call s)) ≡ asked handle (held s)
+unfolding told
+others-stay past s ran call fits handle e =
+    kept-told _ (leaves call s) (next ran call fits) handle ∙ by (given (says call (held s))) ∙ sym (kept-told past s ran handle)
+  where
+    by : (b : Bool) → cond b (changed handle call (told handle past)) (told handle past) ≡ told handle past
+    by true = unnamed-same handle call (told handle past) e
+    by false = refl
+
+-- ---- in an accepted success an open handle stands once, and gets the nonce at its own position
+
+unnamed-among : (response : List ℕ) (handle : ℕ) (es fs : List Session) → isNamed handle es ≡ false → isAmong handle (moves response es fs) ≡ false
+unfolding isNamed isAmong moves
+unnamed-among response handle [] fs e = refl
+unnamed-among response handle (x ∷ es) [] e = refl
+unnamed-among response handle (x ∷ es) (f ∷ fs) e = by (eqb (x .handle) handle) e (unnamed-among response handle es fs)
+  where
+    by : (b : Bool) → (b || isNamed handle es) ≡ false → (isNamed handle es ≡ false → isAmong handle (moves response es fs) ≡ false)
+        → (b || isAmong handle (moves response es fs)) ≡ false
+    by true e rest = absurd (false≢true (sym e))
+    by false e rest = rest e
+
+-- of two truths of which neither holds
+neither : (a b : Bool) → (a || b) ≡ false → (a ≡ false) × (b ≡ false)
+neither true b e = absurd (false≢true (sym e))
+neither false b e = (refl, e)
+
+other-false : (a b : Bool) → a ≡ true → (a && b) ≡ false → b ≡ false
+other-false true b e f = f
+other-false false b e f = absurd (false≢true e)
+
+pub at-position : (response : List ℕ) (xs : List Open) (handle : ℕ) → isOpen handle xs ≡ true
+    → (named given : List Session) → repeated named xs ≡ false → length named ≡ length given
+    → (i : ℕ) → i < length named → getD named i walked.none .handle ≡ handle
+    → (before : List ℕ) → lastOf handle (moves response named given) before ≡ fieldIn response (getD given i walked.none .nonce)
+unfolding repeated moves lastOf
+at-position response xs handle was [] given once long i h at before = absurd (omega arith)
+at-position response xs handle was (e ∷ es) [] once long i h at before = absurd (omega arith)
+at-position response xs handle was (e ∷ es) (f ∷ fs) once long zero h at before =
+    let apart = neither (isOpen (e .handle) xs && isNamed (e .handle) es) (repeated es xs) once in
+    let alone : isNamed handle es ≡ false = rw at at (other-false (isOpen (e .handle) xs) (isNamed (e .handle) es) (rw at was) (apart .0)) in
+    ap (λ (b : Bool). lastOf handle (moves response es fs) (cond b (fieldIn response (f .nonce)) before)) (eq-eqb (e .handle) handle at)
+    ∙ unnamed-last handle (moves response es fs) (unnamed-among response handle es fs alone) (fieldIn response (f .nonce))
+at-position response xs handle was (e ∷ es) (f ∷ fs) once long (suc i) h at before =
+    at-position response xs handle was es fs (neither (isOpen (e .handle) xs && isNamed (e .handle) es) (repeated es xs) once .1) (omega arith) i (omega arith) at
+    (cond (eqb (e .handle) handle) (fieldIn response (f .nonce)) before)
