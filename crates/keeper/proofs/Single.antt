@@ -20,6 +20,7 @@ use Rattle.keeper.specs.declared.refusal.Outcome.{Outcome}
 use Rattle.keeper.specs.declared.refusal.Outcome.the-variants as outcome
 use Rattle.keeper.specs.declared.refusal.Asked.{Asked}
 use Rattle.keeper.specs.declared.refusal.Asked.the-variants as asked
+use Rattle.keeper.specs.Keeper.{handleRepeated, countsDiffer, alreadyOpen, allOpen, notOpen}
 use Rattle.keeper.specs.Refusal.{numbered, saidOutcome, saidAsked}
 use Rattle.keeper.proofs.session.new.Kinds as new-kinds
 use Rattle.keeper.proofs.session.new.Reads as new-reads
@@ -39,11 +40,11 @@ use Rattle.keeper.proofs.answer.answer.Reads as answer-reads
 -- the refusal that a number names; what is no number of the keeper's own is a frame's
 abbrev refusalOf : List ℕ → Refusal
 refusalOf why =
-    cond (eqb (getD why 0 0) 13) refusal.HandleRepeated
-    (cond (eqb (getD why 0 0) 14) refusal.CountsDiffer
-    (cond (eqb (getD why 0 0) 15) refusal.AlreadyOpen
-    (cond (eqb (getD why 0 0) 16) refusal.AllOpen
-    (cond (eqb (getD why 0 0) 17) refusal.NotOpen
+    cond (eqb (getD why 0 0) (getD handleRepeated 0 0)) refusal.HandleRepeated
+    (cond (eqb (getD why 0 0) (getD countsDiffer 0 0)) refusal.CountsDiffer
+    (cond (eqb (getD why 0 0) (getD alreadyOpen 0 0)) refusal.AlreadyOpen
+    (cond (eqb (getD why 0 0) (getD allOpen 0 0)) refusal.AllOpen
+    (cond (eqb (getD why 0 0) (getD notOpen 0 0)) refusal.NotOpen
     (refusal.Frame (named why))))))
 
 told-frame : (e : TpmError) → refusalOf (frame.numbered e) ≡ refusal.Frame (named (frame.numbered e))
