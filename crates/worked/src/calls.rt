@@ -1,5 +1,6 @@
 // A line's call, by its name.
 use crate::frames;
+use crate::nonces;
 use crate::records;
 use crate::rules;
 use crate::show;
@@ -15,18 +16,19 @@ use base::answer::Range;
 use base::error::TpmError;
 use base::field::write_bytes;
 use base::part::part;
+use keeper::state::State;
 
 // The line, and its answer behind it.
-pub(crate) fn line(s: &[u8]) {
+pub(crate) fn line(s: &[u8], keeper: &mut State) {
     io::write_all(1, s);
-    if !check::same(text::word(s, 0), b"#") && !ran(s) {
+    if !check::same(text::word(s, 0), b"#") && !ran(s, keeper) {
         io::write_all(1, b" ?");
     }
     io::write_all(1, b"\n");
 }
 
 // Whether the line has the form of a call, and there is such a call: it is then made.
-fn ran(s: &[u8]) -> bool {
+fn ran(s: &[u8], keeper: &mut State) -> bool {
     let mut room = [0u8; 4096];
     let bytes = text::unhex(text::word(s, 1), &mut room);
     let first = text::decimal(text::word(s, 2));
@@ -39,16 +41,25 @@ fn ran(s: &[u8]) -> bool {
             &mut room[..bytes.number],
             first.number,
             second.number,
+            keeper,
         )
     } else {
         false
     }
 }
 
-fn answered(rules: u32, name: &[u8], bytes: &mut [u8], first: usize, second: usize) -> bool {
+fn answered(
+    rules: u32,
+    name: &[u8],
+    bytes: &mut [u8],
+    first: usize,
+    second: usize,
+    keeper: &mut State,
+) -> bool {
     let mut out = [0u64; 8];
     if records::answered(rules, name, bytes, first, second)
         || views::answered(rules::by(rules), name, bytes, first)
+        || nonces::answered(name, bytes, first, keeper)
     {
         return true;
     }

@@ -3,6 +3,7 @@ ghost use mathlib.Core.Path.{_≡_};
 ghost use Prim.Native.Nat.{_<_};
 ghost use lib.ListN.{length};
 use crate::calls;
+use keeper::state::State;
 
 // The line that is coming in: how many of its bytes stand in the room, and whether others were written before them.
 struct Coming {
@@ -14,6 +15,7 @@ struct Coming {
 pub(crate) fn each() {
     let mut room = [0u8; 16384];
     let mut chunk = io::large_buffer();
+    let mut keeper = [0u8; 4424];
     let mut line = fresh();
     let mut turns = u64::MAX;
     while turns > 0 {
@@ -21,11 +23,11 @@ pub(crate) fn each() {
         if n == 0 {
             break;
         }
-        line = with_bytes(&chunk[..n], &mut room, line);
+        line = with_bytes(&chunk[..n], &mut room, &mut keeper, line);
         turns -= 1;
     }
     if line.len > 0 || line.long {
-        end(&room, line);
+        end(&room, &mut keeper, line);
     }
 }
 
@@ -38,26 +40,26 @@ fn fresh() -> Coming
     }
 }
 
-fn with_bytes(s: &[u8], room: &mut [u8], line: Coming) -> Coming
+fn with_bytes(s: &[u8], room: &mut [u8], keeper: &mut State, line: Coming) -> Coming
     requires { ⌜ line .len < length (now room) ⌝ }
     ensures { λ r. ⌜ r .len < length (now (room .exit)) ⌝ }
 {
     let mut line = line;
     let mut at = 0;
     while at < s.len() {
-        line = with_byte(s[at], room, line);
+        line = with_byte(s[at], room, keeper, line);
         at += 1;
     }
     line
 }
 
 // A room that is full is written and used again.
-fn with_byte(b: u8, room: &mut [u8], line: Coming) -> Coming
+fn with_byte(b: u8, room: &mut [u8], keeper: &mut State, line: Coming) -> Coming
     requires { ⌜ line .len < length (now room) ⌝ }
     ensures { λ r. ⌜ r .len < length (now (room .exit)) ⌝ }
 {
     if b == b'\n' {
-        end(room, line);
+        end(room, keeper, line);
         return fresh();
     }
     let len = line.len;
@@ -72,7 +74,7 @@ fn with_byte(b: u8, room: &mut [u8], line: Coming) -> Coming
     Coming { len: 0, long: true }
 }
 
-fn end(room: &[u8], line: Coming)
+fn end(room: &[u8], keeper: &mut State, line: Coming)
     requires { ⌜ line .len < length (now room) ⌝ }
 {
     let len = line.len;
@@ -81,6 +83,6 @@ fn end(room: &[u8], line: Coming)
         io::write_all(1, s);
         io::write_all(1, b" ?\n");
     } else {
-        calls::line(s);
+        calls::line(s, keeper);
     }
 }

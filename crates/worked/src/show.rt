@@ -77,9 +77,11 @@ fn entry(e: Session) {
     numbers(&told, 6);
 }
 
-// How many fields document 01 gives a refusal.
+// How many fields a refusal has: document 01's have two or three, the keeper's own (document 02, W8) none.
 fn fields(number: u32) -> usize {
-    if number == 1 || number == 6 || number == 8 || number == 9 {
+    if 13 <= number && number <= 17 {
+        0
+    } else if number == 1 || number == 6 || number == 8 || number == 9 {
         3
     } else {
         2

@@ -8,10 +8,10 @@ use Rattle.worked.proofs.lines.each.Statement.{statement}
 use Rattle.worked.proofs.lines.each.Tie as tie
 
 abbrev Inv-loop : tie.InvT-loop
-Inv-loop room₀ chunk₀ line₀ turns₀ room chunk line turns = (length chunk ≡ 65536) × (length room ≡ 16384) × (line .len < 16384)
+Inv-loop room₀ chunk₀ keeper₀ line₀ turns₀ room chunk keeper line turns = (length chunk ≡ 65536) × (length room ≡ 16384) × (line .len < 16384)
 
 abbrev μ-loop : tie.MeasureT-loop
-μ-loop room₀ chunk₀ line₀ turns₀ room chunk line turns = turns
+μ-loop room₀ chunk₀ keeper₀ line₀ turns₀ room chunk keeper line turns = turns
 
 large-buffer-requires : tie.Need-large-buffer-requires Inv-loop μ-loop
 large-buffer-requires c κs = search needs

@@ -24,8 +24,8 @@ slice-write-room c = search needs
 add-if2 : tie.Need-add-if2
 add-if2 c = search needs
 
-add-t12 : tie.Need-add-t12
-add-t12 c = search needs
+add-t14 : tie.Need-add-t14
+add-t14 c = search needs
 
 same-length-2 : tie.Need-same-length-2
 same-length-2 c = search needs
@@ -52,7 +52,7 @@ with-byte-spec =
     returns
     slice-write-room
     add-if2
-    add-t12
+    add-t14
     same-length-2
     returns-2
     write-all-requires

@@ -8,10 +8,10 @@ use Rattle.worked.proofs.lines.with_bytes.Statement.{statement}
 use Rattle.worked.proofs.lines.with_bytes.Tie as tie
 
 abbrev Inv-loop : tie.InvT-loop
-Inv-loop s room₀ line₀ at₀ room line at = (at ≤ length s) × (length room ≡ length room₀) × (line .len < length room)
+Inv-loop s room₀ keeper₀ line₀ at₀ room keeper line at = (at ≤ length s) × (length room ≡ length room₀) × (line .len < length room)
 
 abbrev μ-loop : tie.MeasureT-loop
-μ-loop s room₀ line₀ at₀ room line at = length s - at
+μ-loop s room₀ keeper₀ line₀ at₀ room keeper line at = length s - at
 
 loop-holds : tie.Need-loop-holds Inv-loop μ-loop
 loop-holds c = search needs
