@@ -6,7 +6,7 @@ use mathlib.Core.List.{List, [], _∷_}
 use mathlib.Core.Logic.{_↔_}
 use Prim.Native.Nat.{ℕ, zero, suc, _+_, _-_, _≤_, _<_}
 use native.Mathlib.Omega.{arith}
-use borrow.Author.Tests.{eq-eqb, le-leb, le-ltb, leb-true, ltb-false}
+use borrow.Author.Tests.{eqb-true, eq-eqb, ne-eqb, le-leb, le-ltb, lt-ltb, leb-true, ltb-true, ltb-false, not-true}
 use borrow.Fn.Kinds.{Dens, resT, endedOf}
 use contract.Lifetimes.{Lfts}
 use denote.Ref.{now}
@@ -14,11 +14,14 @@ use denote.Triple.Clauses.{Lasts, atExit}
 use lib.Dec.{eqb, leb, ltb}
 use lib.ListN.{length, getD, set, replicate}
 use Rattle.base.specs.Said.{Said, gives, refuses, needs, then, given, done, after}
-use Rattle.base.proofs.Checks.{needs-gives, gives-injective, refuses-injective, gives≢refuses}
+use Rattle.base.proofs.Checks.{needs-gives, then-gives, refuses-injective, gives≢refuses}
 use Rattle.frame.specs.declared.session.Session.{Session}
+use Rattle.frame.specs.Command.{Division, readCommand}
+use Rattle.frame.specs.Header.{codeOf}
 use Rattle.frame.specs.Parts.{fieldIn}
+use Rattle.frame.specs.Response.{readResponse}
 use Rattle.frame.specs.Walk as walked
-use Rattle.keeper.specs.Keeper.{Open, session, alreadyOpen, allOpen, notOpen, isOpen, asked, opened, closed, Exchange, exchange, isNamed, repeated, moves, moving, moved, answered}
+use Rattle.keeper.specs.Keeper.{Open, session, alreadyOpen, allOpen, notOpen, isOpen, asked, opened, closed, standard, Exchange, exchange, isNamed, repeated, moves, settling, moving, moved, answered}
 use Rattle.keeper.specs.State.{countOf, held, placeOf, put, shifted, openedIn, closedIn, movedIn, answeredIn, bytesOf}
 use Rattle.keeper.specs.History.{Call, opening, answering, closing, asking, counting, silently, says, leaves, Event, Fits, Ran, fresh, next, movesOf, lastOf, changed, told, recount, openTold, isAmong, names}
 use Rattle.keeper.specs.Refusal.{saidOutcome, saidAsked}
@@ -219,3 +222,71 @@ at-position response xs handle was (e ∷ es) (f ∷ fs) once long zero h at bef
 at-position response xs handle was (e ∷ es) (f ∷ fs) once long (suc i) h at before =
     at-position response xs handle was es fs (neither (isOpen (e .handle) xs && isNamed (e .handle) es) (repeated es xs) once .1) (omega arith) i (omega arith) at
     (cond (eqb (e .handle) handle) (fieldIn response (f .nonce)) before)
+
+-- ---- by the frames alone: what the two readings give, the code of the response, and the entries of both
+
+module _ (command response : List ℕ) (c r : Division) (first : readCommand standard command ≡ gives c)
+    (second : readResponse standard (codeOf command) response ≡ gives r) where
+  both-read : exchange command response ≡ gives (record { success = eqb (codeOf response) 0; named = c .entries; given = r .entries })
+  unfolding exchange
+  both-read = rw (first, second) refl
+
+  -- a code other than success moves nothing
+  pub error-code-leaves : (codeOf response ≡ 0 → ⊥) → (s : List ℕ)
+      → (says (answering command response) (held s) ≡ gives []) × (leaves (answering command response) s ≡ s)
+  error-code-leaves other s =
+      error-leaves command response s (record { success = eqb (codeOf response) 0; named = c .entries; given = r .entries }) both-read
+      (ne-eqb (codeOf response) 0 other)
+
+  module _ (success : codeOf response ≡ 0) where
+    these : movesOf response (exchange command response) ≡ moves response (c .entries) (r .entries)
+    these = ap (movesOf response) both-read ∙ ap (λ (b : Bool). cond b (moves response (c .entries) (r .entries)) []) (eq-eqb (codeOf response) 0 success)
+
+    settled : (xs : List Open) → says (answering command response) xs ≡ gives [] → (repeated (c .entries) xs ≡ false) × (length (c .entries) ≡ length (r .entries))
+    unfolding answered moving settling
+    settled xs e =
+        let done = then-gives (answered command response xs) _ e in
+        let made = then-gives (moving command response xs) _ (done .1) in
+        let judged : settling response (c .entries) (r .entries) xs ≡ gives (made .0) =
+        ap (λ (b : Bool). cond b (settling response (c .entries) (r .entries) xs) (gives [])) (sym (eq-eqb (codeOf response) 0 success))
+        ∙ ap (λ (x : Said Exchange). then x λ e. cond (e .success) (settling response (e .named) (e .given) xs) (gives [])) (sym both-read) ∙ made .1 in
+        let once = needs-gives (not (repeated (c .entries) xs)) _ _ judged in
+        let alike = needs-gives (eqb (length (c .entries)) (length (r .entries))) _ _ (once .1) in
+        (not-true (repeated (c .entries) xs) (once .0), eqb-true (length (c .entries)) (length (r .entries)) (alike .0))
+
+    -- success that is accepted moves each open session of the command to the nonce at the same position of the response
+    pub success-moves : (past : List Event) (s : List ℕ) → Ran past s → says (answering command response) (held s) ≡ gives []
+        → (handle : ℕ) → isOpen handle (held s) ≡ true → (i : ℕ) → i < length (c .entries) → getD (c .entries) i walked.none .handle ≡ handle
+        → asked handle (held (leaves (answering command response) s)) ≡ gives (fieldIn response (getD (r .entries) i walked.none .nonce))
+    unfolding told
+    success-moves past s ran said handle was i inside at =
+        let judged = settled (held s) said in
+        kept-told _ (leaves (answering command response) s) (next ran (answering command response) tt) handle
+        ∙ ap (λ (x : Said (List ℕ)). cond (given x) (changed handle (answering command response) (told handle past)) (told handle past)) said
+        ∙ ap (changed handle (answering command response)) (sym (kept-told past s ran handle))
+        ∙ by (asked handle (held s)) (sym (open-answers handle (held s)) ∙ was) judged
+      where
+        by : (before : Said (List ℕ)) → given before ≡ true → (repeated (c .entries) (held s) ≡ false) × (length (c .entries) ≡ length (r .entries))
+            → changed handle (answering command response) before ≡ gives (fieldIn response (getD (r .entries) i walked.none .nonce))
+        by (gives old) e judged =
+            ap (λ (ms : List Open). gives (lastOf handle ms old)) these
+            ∙ ap gives (at-position response (held s) handle was (c .entries) (r .entries) (judged .0) (judged .1) i inside at old)
+        by (refuses why) e judged = absurd (false≢true e)
+
+-- ---- opening is done exactly where the handle is not open, the nonce is not too long and there is a place
+
+module _ (handle : ℕ) (nonce : List ℕ) (xs : List Open) where
+  opens-only : opened handle nonce xs ≡ gives (session handle nonce ∷ xs) → (isOpen handle xs ≡ false) × (length nonce ≤ 64) × (length xs < 64)
+  unfolding opened
+  opens-only e =
+      let first = needs-gives (not (isOpen handle xs)) _ _ e in
+      let second = needs-gives (leb (length nonce) 64) _ _ (first .1) in
+      let third = needs-gives (ltb (length xs) 64) _ _ (second .1) in
+      (not-true (isOpen handle xs) (first .0), leb-true (length nonce) 64 (second .0), ltb-true (length xs) 64 (third .0))
+
+  opens-where : (isOpen handle xs ≡ false) × (length nonce ≤ 64) × (length xs < 64) → opened handle nonce xs ≡ gives (session handle nonce ∷ xs)
+  unfolding opened
+  opens-where t = rw (t .0, le-leb (length nonce) 64 (t .1), lt-ltb (length xs) 64 (t .2)) refl
+
+  pub opens-exactly : (opened handle nonce xs ≡ gives (session handle nonce ∷ xs)) ↔ ((isOpen handle xs ≡ false) × (length nonce ≤ 64) × (length xs < 64))
+  opens-exactly = (opens-only, opens-where)
