@@ -5,6 +5,7 @@ pub mod Checks
 pub mod Facts
 pub mod Handing
 pub mod HandingBy
+pub mod Laid
 pub mod Lending
 pub mod Lists
 pub mod Parts

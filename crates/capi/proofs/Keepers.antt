@@ -1,8 +1,7 @@
 -- For whoever keeps nonces in C: each call on a keeper is an event of its history (crate keeper, specs/History.antt). So the theorem of the keeper, over
 -- every run of calls from a new one, is of these calls.
 -- Assumes nothing.
-use mathlib.Core.Path.{_≡_, refl, _∙_, ap}
-use Prim.Native.Nat.{ℕ}
+use mathlib.Core.Path.{_≡_, refl, _∙_}
 use borrow.Fn.Kinds.{Dens, resT, endedOf}
 use contract.Lifetimes.{Lfts}
 use denote.Ref.{now}

@@ -2,19 +2,18 @@
 -- bytes are.
 -- Assumes nothing.
 use mathlib.Core.Path.{_≡_, refl, sym, _∙_, ap}
-use mathlib.Core.Bool.{Bool, true, false, not}
+use mathlib.Core.Bool.{true, false}
 use mathlib.Core.List.{List, [], _∷_}
-use Prim.Native.Nat.{ℕ, zero, suc, _+_, _-_, _≤_, _<_}
+use Prim.Native.Nat.{ℕ, suc, _+_, _-_, _≤_, _<_}
 use native.Mathlib.Omega.{arith}
 use borrow.Author.Tests.{le-leb, lt-leb, lt-ltb, le-ltb}
-use lib.Dec.{leb, ltb}
 use lib.ListN.{length, set, take, drop, length-set}
 use Rattle.base.specs.Answer.{Part}
-use Rattle.base.specs.Said.{Said, gives, refuses, needs, then, done, after}
+use Rattle.base.specs.Said.{Said, gives, refuses, then, done, after}
 use Rattle.keeper.specs.Keeper.{Open, session, alreadyOpen, allOpen, notOpen, isOpen, asked, without, opened, closed}
-use Rattle.keeper.specs.State.{noncePlace, countOf, handleAt, sizeAt, nonceAt, openAt, below, held, placeBelow, placeOf, put, shifted, openedIn, closedIn, nonceRange, askedIn, bytesOf}
+use Rattle.keeper.specs.State.{noncePlace, countOf, handleAt, sizeAt, nonceAt, openAt, below, held, placeBelow, placeOf, put, shifted, nonceRange, askedIn, bytesOf}
 use Rattle.keeper.proofs.Found.{length-held, below-same, place-most, open-found, open-not-found, asked-found, asked-not-found, without-found}
-use Rattle.keeper.proofs.Places.{count-most, size-most, length-nonce, length-put, count-put, open-put, other-put, open-counted, count-counted}
+use Rattle.keeper.proofs.Places.{count-most, size-most, length-nonce, length-put, open-put, other-put, open-counted, count-counted}
 
 -- ---- what a call says of the sessions, it says of the bytes
 

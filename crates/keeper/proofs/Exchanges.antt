@@ -24,7 +24,7 @@ use Rattle.frame.proofs.ResponseLaws.{signed-response, response-division-fields
 use Rattle.frame.proofs.Walks.{step-refused}
 use Rattle.keeper.specs.Keeper.{Open, standard, Exchange, exchange, repeated, moves, settling, moving, moved, answered}
 use Rattle.keeper.specs.History.{movesOf}
-use Rattle.keeper.specs.State.{held, movedIn, settledIn, answeredIn}
+use Rattle.keeper.specs.State.{held, movedIn}
 use Rattle.keeper.proofs.Calls.{Does}
 use Rattle.keeper.proofs.Moves.{Short, field-short, held-moved}
 

@@ -1,16 +1,17 @@
 -- The open sessions of some bytes, and the place of a handle among them: what the list says of a handle, the place that is found says too.
 -- Assumes nothing.
 use mathlib.Core.Path.{_≡_, refl, sym, _∙_, ap}
-use mathlib.Core.Bool.{Bool, true, false, _||_, cond}
-use mathlib.Core.List.{List, [], _∷_}
+use mathlib.Core.Bool.{Bool, true, false, cond}
+use mathlib.Core.List.{List, _∷_}
 use Prim.Native.Nat.{ℕ, zero, suc, _+_, _-_, _≤_, _<_}
 use native.Mathlib.Omega.{arith}
 use borrow.Author.Tests.{eqb-true, eq-eqb, ne-eqb, ltb-true, ltb-false}
 use lib.Dec.{eqb, ltb}
 use lib.ListN.{length}
-use Rattle.base.specs.Said.{Said, gives, refuses}
+use Rattle.base.specs.Said.{gives, refuses, given}
 use Rattle.keeper.specs.Keeper.{Open, notOpen, isOpen, asked, replace, without}
-use Rattle.keeper.specs.State.{countOf, handleAt, nonceAt, openAt, below, held, placeBelow, placeOf}
+use Rattle.keeper.specs.State.{countOf, handleAt, nonceAt, openAt, below, held, placeBelow}
+use Rattle.keeper.proofs.Sessions.{open-answers}
 
 pub length-below : (s : List ℕ) (n : ℕ) → length (below s n) ≡ n
 unfolding below
@@ -87,27 +88,7 @@ module _ (s : List ℕ) (handle : ℕ) where
       by true t e rest = let last : n ≡ i = omega arith in rw (← last) (eqb-true (handleAt s n) handle t)
       by false t e rest = rest e
 
-  -- where one is found the handle is open, and its nonce is the one there
-  pub open-found : (n i : ℕ) → placeBelow s handle n ≡ suc i → isOpen handle (below s n) ≡ true
-  unfolding placeBelow below isOpen
-  open-found zero i e = absurd (omega arith)
-  open-found (suc n) i e = by (eqb (handleAt s n) handle) e (open-found n i)
-    where
-      by : (b : Bool) → cond b (suc n) (placeBelow s handle n) ≡ suc i
-          → (placeBelow s handle n ≡ suc i → isOpen handle (below s n) ≡ true) → (b || isOpen handle (below s n)) ≡ true
-      by true e rest = refl
-      by false e rest = rest e
-
-  pub open-not-found : (n : ℕ) → placeBelow s handle n ≡ 0 → isOpen handle (below s n) ≡ false
-  unfolding placeBelow below isOpen
-  open-not-found zero e = refl
-  open-not-found (suc n) e = by (eqb (handleAt s n) handle) e (open-not-found n)
-    where
-      by : (b : Bool) → cond b (suc n) (placeBelow s handle n) ≡ 0
-          → (placeBelow s handle n ≡ 0 → isOpen handle (below s n) ≡ false) → (b || isOpen handle (below s n)) ≡ false
-      by true e rest = absurd (omega arith)
-      by false e rest = rest e
-
+  -- where one is found, the nonce of the handle is the one there
   pub asked-found : (n i : ℕ) → placeBelow s handle n ≡ suc i → asked handle (below s n) ≡ gives (nonceAt s i)
   unfolding placeBelow below asked
   asked-found zero i e = absurd (omega arith)
@@ -129,6 +110,13 @@ module _ (s : List ℕ) (handle : ℕ) where
           → cond b (gives (nonceAt s n)) (asked handle (below s n)) ≡ refuses notOpen
       by true e rest = absurd (omega arith)
       by false e rest = rest e
+
+  -- so the handle is open exactly where one is found
+  pub open-found : (n i : ℕ) → placeBelow s handle n ≡ suc i → isOpen handle (below s n) ≡ true
+  open-found n i e = open-answers handle (below s n) ∙ ap given (asked-found n i e)
+
+  pub open-not-found : (n : ℕ) → placeBelow s handle n ≡ 0 → isOpen handle (below s n) ≡ false
+  open-not-found n e = open-answers handle (below s n) ∙ ap given (asked-not-found n e)
 
   -- a handle that is not found has no place to be replaced at
   pub replace-not-found : (y : Open) (n : ℕ) → placeBelow s handle n ≡ 0 → replace handle y (below s n) ≡ below s n

@@ -6,7 +6,7 @@ use mathlib.Core.List.{List, [], _∷_}
 use mathlib.Core.Logic.{_↔_}
 use Prim.Native.Nat.{ℕ, zero, suc, _+_, _-_, _≤_, _<_}
 use native.Mathlib.Omega.{arith}
-use borrow.Author.Tests.{eqb-true, eq-eqb, ne-eqb, le-leb, le-ltb, lt-ltb, leb-true, ltb-true, ltb-false, not-true}
+use borrow.Author.Tests.{eqb-true, eq-eqb, ne-eqb, le-leb, le-ltb, lt-ltb, leb-true, ltb-false, not-true}
 use borrow.Fn.Kinds.{Dens, resT, endedOf}
 use contract.Lifetimes.{Lfts}
 use denote.Ref.{now}
@@ -21,15 +21,14 @@ use Rattle.frame.specs.Header.{codeOf}
 use Rattle.frame.specs.Parts.{fieldIn}
 use Rattle.frame.specs.Response.{readResponse}
 use Rattle.frame.specs.Walk as walked
-use Rattle.keeper.specs.Keeper.{Open, session, alreadyOpen, allOpen, notOpen, isOpen, asked, opened, closed, standard, Exchange, exchange, isNamed, repeated, moves, settling, moving, moved, answered}
+use Rattle.keeper.specs.Keeper.{Open, session, alreadyOpen, allOpen, isOpen, asked, opened, closed, standard, Exchange, exchange, isNamed, repeated, moves, settling, moving, moved, answered}
 use Rattle.keeper.specs.State.{countOf, held, placeOf, put, shifted, openedIn, closedIn, movedIn, answeredIn, bytesOf}
-use Rattle.keeper.specs.History.{Call, opening, answering, closing, asking, counting, silently, says, leaves, Event, Fits, Ran, fresh, next, movesOf, lastOf, changed, told, recount, openTold, isAmong, names}
+use Rattle.keeper.specs.History.{Call, opening, answering, closing, asking, counting, silently, says, leaves, Event, Fits, Ran, fresh, next, movesOf, lastOf, changed, told, recount, openTold, names}
 use Rattle.keeper.specs.Refusal.{saidOutcome, saidAsked}
-use Rattle.keeper.proofs.Exchanges.{moving-told}
 use Rattle.keeper.proofs.Found.{length-held}
 use Rattle.keeper.proofs.Places.{count-most}
-use Rattle.keeper.proofs.Runs.{Sound, ran-sound, none-held, kept-told, length-after}
-use Rattle.keeper.proofs.Sessions.{open-answers}
+use Rattle.keeper.proofs.Runs.{opened-tests, ran-sound, none-held, kept-told, length-after}
+use Rattle.keeper.proofs.Sessions.{neither, open-answers}
 use Rattle.keeper.proofs.session.new.Kinds as new-kinds
 use Rattle.keeper.proofs.session.new.Reads as new-reads
 use Rattle.keeper.proofs.session.len.Kinds as len-kinds
@@ -157,12 +156,12 @@ unfolding answered answeredIn moving moved movedIn
 error-leaves command response s e is error = rw (is, error) (refl, refl)
 
 -- what is kept for a handle that the call does not name
-unnamed-last : (handle : ℕ) (ms : List Open) → isAmong handle ms ≡ false → (before : List ℕ) → lastOf handle ms before ≡ before
-unfolding isAmong lastOf
+unnamed-last : (handle : ℕ) (ms : List Open) → isOpen handle ms ≡ false → (before : List ℕ) → lastOf handle ms before ≡ before
+unfolding isOpen lastOf
 unnamed-last handle [] e before = refl
 unnamed-last handle (m ∷ ms) e before = by (eqb (m .handle) handle) e (unnamed-last handle ms)
   where
-    by : (b : Bool) → (b || isAmong handle ms) ≡ false → (isAmong handle ms ≡ false → (old : List ℕ) → lastOf handle ms old ≡ old)
+    by : (b : Bool) → (b || isOpen handle ms) ≡ false → (isOpen handle ms ≡ false → (old : List ℕ) → lastOf handle ms old ≡ old)
         → lastOf handle ms (cond b (m .nonce) before) ≡ before
     by true e rest = absurd (false≢true (sym e))
     by false e rest = rest e before
@@ -187,21 +186,16 @@ others-stay past s ran call fits handle e =
 
 -- ---- in an accepted success an open handle stands once, and gets the nonce at its own position
 
-unnamed-among : (response : List ℕ) (handle : ℕ) (es fs : List Session) → isNamed handle es ≡ false → isAmong handle (moves response es fs) ≡ false
-unfolding isNamed isAmong moves
+unnamed-among : (response : List ℕ) (handle : ℕ) (es fs : List Session) → isNamed handle es ≡ false → isOpen handle (moves response es fs) ≡ false
+unfolding isNamed isOpen moves
 unnamed-among response handle [] fs e = refl
 unnamed-among response handle (x ∷ es) [] e = refl
 unnamed-among response handle (x ∷ es) (f ∷ fs) e = by (eqb (x .handle) handle) e (unnamed-among response handle es fs)
   where
-    by : (b : Bool) → (b || isNamed handle es) ≡ false → (isNamed handle es ≡ false → isAmong handle (moves response es fs) ≡ false)
-        → (b || isAmong handle (moves response es fs)) ≡ false
+    by : (b : Bool) → (b || isNamed handle es) ≡ false → (isNamed handle es ≡ false → isOpen handle (moves response es fs) ≡ false)
+        → (b || isOpen handle (moves response es fs)) ≡ false
     by true e rest = absurd (false≢true (sym e))
     by false e rest = rest e
-
--- of two truths of which neither holds
-neither : (a b : Bool) → (a || b) ≡ false → (a ≡ false) × (b ≡ false)
-neither true b e = absurd (false≢true (sym e))
-neither false b e = (refl, e)
 
 other-false : (a b : Bool) → a ≡ true → (a && b) ≡ false → b ≡ false
 other-false true b e f = f
@@ -277,12 +271,7 @@ module _ (command response : List ℕ) (c r : Division) (first : readCommand sta
 
 module _ (handle : ℕ) (nonce : List ℕ) (xs : List Open) where
   opens-only : opened handle nonce xs ≡ gives (session handle nonce ∷ xs) → (isOpen handle xs ≡ false) × (length nonce ≤ 64) × (length xs < 64)
-  unfolding opened
-  opens-only e =
-      let first = needs-gives (not (isOpen handle xs)) _ _ e in
-      let second = needs-gives (leb (length nonce) 64) _ _ (first .1) in
-      let third = needs-gives (ltb (length xs) 64) _ _ (second .1) in
-      (not-true (isOpen handle xs) (first .0), leb-true (length nonce) 64 (second .0), ltb-true (length xs) 64 (third .0))
+  opens-only e = let test = opened-tests handle nonce xs (session handle nonce ∷ xs) e in (test .0, test .1, test .2)
 
   opens-where : (isOpen handle xs ≡ false) × (length nonce ≤ 64) × (length xs < 64) → opened handle nonce xs ≡ gives (session handle nonce ∷ xs)
   unfolding opened

@@ -12,7 +12,7 @@ use Rattle.frame.specs.declared.session.Field.{Field}
 use Rattle.frame.specs.declared.session.Session.{Session}
 use Rattle.frame.specs.Parts.{fieldIn}
 use Rattle.keeper.specs.Keeper.{Open, session, isOpen, isNamed, repeated, replace, moves, moved}
-use Rattle.keeper.specs.State.{countOf, handleAt, openAt, below, held, placeBelow, placeOf, renewed, renewedAt, movedIn, samePlace}
+use Rattle.keeper.specs.State.{countOf, below, held, placeBelow, placeOf, renewed, renewedAt, movedIn, samePlace}
 use Rattle.keeper.proofs.Calls.{is-open, is-not-open, found-inside}
 use Rattle.keeper.proofs.Found.{place-has, replace-found, replace-not-found}
 use Rattle.keeper.proofs.Places.{count-most, length-renewed, count-renewed, handle-renewed, nonce-given, nonce-renewed}

@@ -2,68 +2,21 @@
 -- Assumes nothing.
 use mathlib.Core.Path.{_≡_, refl, sym, _∙_, ap}
 use mathlib.Core.Bool.{Bool, true, false, cond}
-use mathlib.Core.List.{List, [], _∷_, _++_, append-assoc}
+use mathlib.Core.List.{List, [], _∷_}
 use mathlib.Core.Logic.{_⊎_, inl, inr, ⊎-elim}
-use Prim.Native.Nat.{ℕ, zero, suc, _+_, _-_, _*_, _/_, _%_, _≤_, _<_}
+use Prim.Native.Nat.{ℕ, _+_, _-_, _/_, _%_, _≤_, _<_}
 use native.Mathlib.Omega.{arith}
-use borrow.Author.Tests.{le-leb, ltb-true, ltb-false}
+use borrow.Author.Tests.{ltb-true, ltb-false}
 use lib.Dec.{ltb}
-use lib.ListN.{length, getD, set, take, drop, length-append, length-drop, length-set, take-append-drop, List·getD-append}
-use lib.Seq.{getD-set-same, getD-set-other, drop-set-lt, length-take-le, take-append-le, drop-append-le, take-at, drop-at, drop-drop, getD-append-add, getD-take, getD-drop, drop-append-add}
+use lib.ListN.{length, getD, set, take, drop, length-drop, length-set}
+use lib.Seq.{getD-set-same, getD-set-other, drop-set-lt, length-take-le}
 use Rattle.base.specs.Bytes.{number}
 use Rattle.base.specs.Field.{laid, writeBytes}
 use Rattle.base.specs.Said.{after}
 use Rattle.base.proofs.Bytes.{number-bytes, four-bytes}
-use Rattle.base.proofs.Places.{read-within}
+use Rattle.base.proofs.Laid.{length-laid, before-laid, behind-laid, laid-there, getD-before-laid, bytes-laid}
 use Rattle.base.proofs.Widths.{through}
 use Rattle.keeper.specs.State.{handlePlace, sizePlace, noncePlace, capped, countOf, handleAt, sizeAt, nonceAt, labelled, renewed, put, openAt}
-
--- ---- bytes laid at a place of others
-
-module _ (place : ℕ) (t s : List ℕ) (inside : place + length t ≤ length s) where
-  front : length (take place s) ≡ place
-  front = length-take-le place s (omega arith)
-
-  pub length-laid : length (laid place t s) ≡ length s
-  length-laid =
-      length-append (take place s) (t ++ drop (place + length t) s)
-      ∙ (λ i. front i + length-append t (drop (place + length t) s) i)
-      ∙ ap (λ (n : ℕ). place + (length t + n)) (length-drop (place + length t) s)
-      ∙ omega arith
-
-  -- before them and behind them all is as it was
-  pub before-laid : (from n : ℕ) → from + n ≤ place → take n (drop from (laid place t s)) ≡ take n (drop from s)
-  before-laid from n h =
-      let whole : from ≤ length (take place s) = rw front (omega arith) in
-      let part : n ≤ length (drop from (take place s)) = rw (length-drop, front) (omega arith) in
-      ap (take n) (drop-append-le from (take place s) (t ++ drop (place + length t) s) whole)
-      ∙ take-append-le n (drop from (take place s)) (t ++ drop (place + length t) s) part
-      ∙ read-within place s from n (rw front (omega arith))
-
-  pub behind-laid : (from : ℕ) → place + length t ≤ from → drop from (laid place t s) ≡ drop from s
-  behind-laid from h =
-      let ahead : length (take place s ++ t) ≡ place + length t = length-append (take place s) t ∙ ap (λ (n : ℕ). n + length t) front in
-      let more : ℕ = from - (place + length t) in
-      let there : length (take place s ++ t) + more ≡ from = rw ahead (omega arith) in
-      let here : place + length t + more ≡ from = omega arith in
-      ap (drop from) (sym (append-assoc (take place s) t (drop (place + length t) s)))
-      ∙ ap (λ (n : ℕ). drop n (take place s ++ t ++ drop (place + length t) s)) (sym there)
-      ∙ drop-append-add (take place s ++ t) (drop (place + length t) s) more
-      ∙ drop-drop more (place + length t) s
-      ∙ ap (λ (n : ℕ). drop n s) here
-
-  pub laid-there : take (length t) (drop place (laid place t s)) ≡ t
-  laid-there =
-      ap (take (length t)) (drop-at (take place s) (t ++ drop (place + length t) s) place front)
-      ∙ take-at t (drop (place + length t) s) (length t) refl
-
-  pub getD-before-laid : (i : ℕ) → i < place → getD (laid place t s) i 0 ≡ getD s i 0
-  getD-before-laid i h =
-      List·getD-append (take place s) (t ++ drop (place + length t) s) 0 i (rw front h) ∙ getD-take place s i 0 h
-
--- a write for which there is room
-pub bytes-laid : (place : ℕ) (t s : List ℕ) → length t ≤ length s - place → after s (writeBytes place t s) ≡ laid place t s
-bytes-laid place t s h = simp (le-leb (length t) (length s - place) h)
 
 -- ---- a place that is within the bytes
 
@@ -193,10 +146,6 @@ module _ (s : List ℕ) (all : length s ≡ 4424) (i : ℕ) (h : i < 64) (handle
       ∙ getD-set-other one (p + 1) j (handle / 256 % 256) 0 (λ e. ⊎-elim (λ l. omega arith) (λ l. omega arith) side)
       ∙ getD-set-other s p j (handle % 256) 0 (λ e. ⊎-elim (λ l. omega arith) (λ l. omega arith) side)
 
-  count-labelled : countOf (labelled i handle s) ≡ countOf s
-  unfolding countOf
-  count-labelled = ap capped (byte-labelled 0 (inl (omega arith)))
-
   size-labelled : (j : ℕ) → sizeAt (labelled i handle s) j ≡ sizeAt s j
   unfolding sizeAt
   size-labelled j = ap capped (byte-labelled (sizePlace j) (inr (omega arith)))
@@ -267,9 +216,6 @@ module _ (s : List ℕ) (all : length s ≡ 4424) (i : ℕ) (h : i < 64) (handle
 module _ (s : List ℕ) (all : length s ≡ 4424) (i : ℕ) (h : i < 64) (handle : ℕ) (nonce : List ℕ) (few : length nonce ≤ 64) where
   pub length-put : length (put i handle nonce s) ≡ 4424
   length-put = length-renewed (labelled i handle s) (length-labelled s all i h handle) i h nonce few
-
-  pub count-put : countOf (put i handle nonce s) ≡ countOf s
-  count-put = count-renewed (labelled i handle s) (length-labelled s all i h handle) i h nonce few ∙ count-labelled s all i h handle
 
   pub open-put : handle < 4294967296 → openAt (put i handle nonce s) i ≡ record { handle = handle; nonce = nonce }
   open-put fits =

@@ -5,20 +5,19 @@ use mathlib.Core.Bool.{Bool, true, false, not, cond, false≢true}
 use mathlib.Core.List.{List, [], _∷_}
 use Prim.Native.Nat.{ℕ, zero, suc, _+_, _-_, _≤_, _<_}
 use native.Mathlib.Omega.{arith}
-use borrow.Author.Tests.{leb-true, ltb-true, eqb-true, not-true, lt-ltb}
+use borrow.Author.Tests.{leb-true, ltb-true, not-true}
 use lib.Dec.{eqb, leb, ltb}
 use lib.ListN.{length, set, replicate, length-replicate}
-use Rattle.base.specs.Said.{Said, gives, refuses, needs, then, given, done, after}
+use Rattle.base.specs.Said.{Said, gives, refuses, then, given, after}
 use Rattle.base.proofs.Checks.{needs-gives, gives-injective}
-use Rattle.keeper.specs.Keeper.{Open, session, notOpen, isOpen, asked, without, opened, closed, exchange, moving, moved, answered}
-use Rattle.keeper.specs.State.{countOf, handleAt, openAt, below, held, placeBelow, placeOf, put, shifted, openedIn, closedIn, movedIn, answeredIn}
-use Rattle.keeper.specs.History.{Call, opening, answering, closing, asking, counting, silently, says, leaves, Event, event, Fits, Ran, fresh, next, movesOf, lastOf, changed, told, recount}
+use Rattle.keeper.specs.Keeper.{Open, session, notOpen, isOpen, asked, opened, closed, exchange, moving, moved, answered}
+use Rattle.keeper.specs.State.{countOf, handleAt, below, held, placeOf, put, shifted, openedIn, closedIn, movedIn, answeredIn}
+use Rattle.keeper.specs.History.{Call, opening, answering, closing, asking, counting, silently, says, leaves, Event, Fits, Ran, fresh, next, movesOf, lastOf, changed, told, recount}
 use Rattle.keeper.proofs.Calls.{is-not-open, found-inside, held-opened, length-opened, held-closed, length-closed}
 use Rattle.keeper.proofs.Exchanges.{moving-told}
 use Rattle.keeper.proofs.Found.{length-held}
 use Rattle.keeper.proofs.Moves.{held-moved}
-use Rattle.keeper.proofs.Places.{count-most}
-use Rattle.keeper.proofs.Sessions.{Distinct, Fit, open-answers, not-open, asked-moved, distinct-moved, fit-moved, length-moved, asked-without, distinct-without, fit-without, length-without}
+use Rattle.keeper.proofs.Sessions.{Distinct, Fit, asked-moved, distinct-moved, fit-moved, length-moved, asked-without, distinct-without, fit-without, length-without}
 
 -- ---- the bytes that a run gives
 
@@ -35,7 +34,7 @@ Steps s call =
 
 -- ---- opening
 
-opened-tests : (handle : ℕ) (nonce : List ℕ) (xs later : List Open) → opened handle nonce xs ≡ gives later
+pub opened-tests : (handle : ℕ) (nonce : List ℕ) (xs later : List Open) → opened handle nonce xs ≡ gives later
     → (isOpen handle xs ≡ false) × (length nonce ≤ 64) × (length xs < 64) × (session handle nonce ∷ xs ≡ later)
 unfolding opened
 opened-tests handle nonce xs later e =
@@ -138,15 +137,15 @@ answers s sound command response = by (moving command response (held s)) refl
 
 -- ---- every call, and every run
 
-idle : (s : List ℕ) (handle : ℕ) (b : Bool) → asked handle (held s) ≡ cond b (asked handle (held s)) (asked handle (held s))
-idle s handle true = refl
-idle s handle false = refl
+either-way : {A : Type 0} (b : Bool) (x : A) → x ≡ cond b x x
+either-way true x = refl
+either-way false x = refl
 
 steps : (s : List ℕ) → Sound s → (call : Call) → Fits call → Steps s call
 steps s sound (opening handle nonce) fits = opens s sound handle fits nonce
 steps s sound (answering command response) fits = answers s sound command response
 steps s sound (closing handle) fits = closes s sound handle
-steps s sound (asking handle) fits = (sound, λ other. idle s other (given (asked handle (held s))))
+steps s sound (asking handle) fits = (sound, λ other. either-way (given (asked handle (held s))) (asked other (held s)))
 steps s sound counting fits = (sound, λ other. refl)
 
 pub none-held : held (replicate 4424 0) ≡ []
@@ -204,9 +203,5 @@ module _ (s : List ℕ) (sound : Sound s) where
           let more : countOf s ≡ suc (countOf s - 1) = omega arith in
           ap length (held-closed s (sound .all) handle place (fit-last s (countOf s - 1) more (sound .fit))) ∙ length-without handle (held s) was
       by (refuses why) e = refl
-  length-after (asking handle) fits = by (given (asked handle (held s)))
-    where
-      by : (b : Bool) → length (held s) ≡ cond b (length (held s)) (length (held s))
-      by true = refl
-      by false = refl
+  length-after (asking handle) fits = either-way (given (asked handle (held s))) (length (held s))
   length-after counting fits = refl

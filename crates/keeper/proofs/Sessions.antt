@@ -13,13 +13,9 @@ use Rattle.keeper.specs.Keeper.{Open, session, notOpen, isOpen, asked, r
 use Rattle.keeper.specs.History.{lastOf}
 
 -- of two truths of which neither holds
-or-first : (a b : Bool) → (a || b) ≡ false → a ≡ false
-or-first true b e = e
-or-first false b e = refl
-
-or-second : (a b : Bool) → (a || b) ≡ false → b ≡ false
-or-second true b e = absurd (false≢true (sym e))
-or-second false b e = e
+pub neither : (a b : Bool) → (a || b) ≡ false → (a ≡ false) × (b ≡ false)
+neither true b e = absurd (false≢true (sym e))
+neither false b e = (refl, e)
 
 -- a session is open exactly when there is an answer for it
 pub open-answers : (handle : ℕ) (xs : List Open) → isOpen handle xs ≡ given (asked handle xs)
@@ -192,10 +188,10 @@ module _ (handle : ℕ) (y : Open) (apart : y .handle ≡ handle → ⊥) where
           → (d : Bool) → eqb (x .handle) other ≡ d
           → cond d (gives (x .nonce)) (asked other (replace handle y xs)) ≡ tradedFor handle y other (cond d (gives (x .nonce)) (asked other xs))
       there t rest true e =
-          let own : eqb (y .handle) other ≡ false = ne-eqb (y .handle) other (λ q. false≢true (sym (or-first (eqb (x .handle) (y .handle)) (isOpen (y .handle) xs) new) ∙ eq-eqb (x .handle) (y .handle) (eqb-true (x .handle) other e ∙ sym q))) in
+          let own : eqb (y .handle) other ≡ false = ne-eqb (y .handle) other (λ q. false≢true (sym (neither (eqb (x .handle) (y .handle)) (isOpen (y .handle) xs) new .0) ∙ eq-eqb (x .handle) (y .handle) (eqb-true (x .handle) other e ∙ sym q))) in
           let gone : eqb handle other ≡ false = ne-eqb handle other (λ q. eqb-false (x .handle) handle t (eqb-true (x .handle) other e ∙ sym q)) in
           rw (own, gone) refl
-      there t rest false e = rest (or-second (eqb (x .handle) (y .handle)) (isOpen (y .handle) xs) new) (rw t at old)
+      there t rest false e = rest (neither (eqb (x .handle) (y .handle)) (isOpen (y .handle) xs) new .1) (rw t at old)
 
       -- the head is the one that is closed, and there is no other
       here : eqb (x .handle) handle ≡ true → (d : Bool) → eqb handle other ≡ d
@@ -229,11 +225,11 @@ module _ (handle : ℕ) (y : Open) (apart : y .handle ≡ handle → ⊥) where
     where
       by : (b : Bool) → eqb (x .handle) handle ≡ b → (isOpen (y .handle) xs ≡ false → isOpen handle xs ≡ true → Distinct (replace handle y xs))
           → Distinct (cond b (y ∷ xs) (x ∷ replace handle y xs))
-      by true t rest = (or-second (eqb (x .handle) (y .handle)) (isOpen (y .handle) xs) new, one .1)
+      by true t rest = (neither (eqb (x .handle) (y .handle)) (isOpen (y .handle) xs) new .1, one .1)
       by false t rest =
-          let fresh = or-second (eqb (x .handle) (y .handle)) (isOpen (y .handle) xs) new in
+          let fresh = neither (eqb (x .handle) (y .handle)) (isOpen (y .handle) xs) new .1 in
           let there : isOpen handle xs ≡ true = rw t at old in
-          let own = ne-eqb (y .handle) (x .handle) (λ q. eqb-false (x .handle) (y .handle) (or-first (eqb (x .handle) (y .handle)) (isOpen (y .handle) xs) new) (sym q)) in
+          let own = ne-eqb (y .handle) (x .handle) (λ q. eqb-false (x .handle) (y .handle) (neither (eqb (x .handle) (y .handle)) (isOpen (y .handle) xs) new .0) (sym q)) in
           (open-traded (x .handle) xs (one .1) fresh there own (one .0), rest fresh there)
 
 -- ---- closing
@@ -296,5 +292,5 @@ pub passed-by : (handle : ℕ) (y : Open) (xs : List Open) → isOpen handle xs 
 unfolding replace isOpen
 passed-by handle y [] e = refl
 passed-by handle y (x ∷ xs) e =
-    rw (or-first (eqb (x .handle) handle) (isOpen handle xs) e)
-    (ap (λ (rest : List Open). x ∷ rest) (passed-by handle y xs (or-second (eqb (x .handle) handle) (isOpen handle xs) e)))
+    rw (neither (eqb (x .handle) handle) (isOpen handle xs) e .0)
+    (ap (λ (rest : List Open). x ∷ rest) (passed-by handle y xs (neither (eqb (x .handle) handle) (isOpen handle xs) e .1)))

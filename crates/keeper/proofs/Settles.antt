@@ -1,23 +1,23 @@
 -- The cases of an answer behind its two frames, for the entries by value: what is judged of them, and what is stored.
 -- Assumes nothing.
 use mathlib.Core.Path.{_≡_, refl, sym, _∙_, ap}
-use mathlib.Core.Bool.{Bool, true, false, not, _||_, cond}
+use mathlib.Core.Bool.{Bool, true, false, _||_}
 use mathlib.Core.List.{List, [], _∷_}
 use Prim.Native.Nat.{ℕ, zero, suc, _≤_, _<_}
 use native.Mathlib.Omega.{arith}
 use borrow.Author.Tests.{eq-eqb, ne-eqb, ltb-true}
-use lib.Dec.{eqb, ltb}
+use lib.Dec.{ltb}
 use lib.ListN.{length, take}
 use lib.Seq.{length-take-le}
-use Rattle.base.specs.Said.{Said, gives, refuses, needs, then, done, after}
+use Rattle.base.specs.Said.{Said, gives, refuses, done, after}
 use Rattle.frame.specs.declared.session.Entries.{Entries}
 use Rattle.frame.specs.declared.session.Field.{Field}
 use Rattle.frame.specs.declared.session.Session.{Session}
 use Rattle.frame.specs.Parts.{Kept, EachField, entriesOf, fieldIn}
-use Rattle.keeper.specs.Keeper.{Open, session, handleRepeated, countsDiffer, repeated, moves, settling}
-use Rattle.keeper.specs.State.{countOf, held, placeOf, renewedAt, movedIn, settledIn, samePlace}
+use Rattle.keeper.specs.Keeper.{Open, handleRepeated, countsDiffer, repeated, moves, settling}
+use Rattle.keeper.specs.State.{held, renewedAt, movedIn, settledIn, samePlace}
 use Rattle.keeper.proofs.Calls.{found-inside}
-use Rattle.keeper.proofs.Moves.{Short, placeIf, place-renewed, length-renewed-at, field-short, repeated-three, moved-three, moves-three}
+use Rattle.keeper.proofs.Moves.{placeIf, length-renewed-at, field-short, repeated-three, moved-three, moves-three}
 use Rattle.keeper.proofs.Places.{count-most}
 
 -- ---- the entries that are there

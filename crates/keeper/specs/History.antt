@@ -1,12 +1,12 @@
 -- Runs of calls, and what the history of a run, its calls with their answers, tells of a session (document 02, W8). A history has the last call first.
 -- Assumes nothing: these are definitions.
 use Prim.Native.Nat.{ℕ, suc, _-_, _<_}
-use mathlib.Core.Bool.{Bool, false, _||_, cond}
+use mathlib.Core.Bool.{Bool, false, cond}
 use mathlib.Core.List.{List, [], _∷_}
 use lib.Dec.{eqb}
 use lib.ListN.{length, replicate}
 use Rattle.base.specs.Said.{Said, gives, refuses, then, given, after}
-use Rattle.keeper.specs.Keeper.{Open, notOpen, asked, opened, closed, Exchange, exchange, moves, answered}
+use Rattle.keeper.specs.Keeper.{Open, notOpen, isOpen, asked, opened, closed, Exchange, exchange, moves, answered}
 use Rattle.keeper.specs.State.{held, openedIn, closedIn, answeredIn}
 
 pub data Call : Type 0 where
@@ -94,14 +94,10 @@ unfoldable pub openTold : List Event → ℕ
 openTold [] = 0
 openTold (e ∷ past) = cond (given (e .said)) (recount (e .call) (openTold past)) (openTold past)
 
--- whether a call names a handle
-unfoldable pub isAmong : ℕ → List Open → Bool
-isAmong handle [] = false
-isAmong handle (m ∷ ms) = eqb (m .handle) handle || isAmong handle ms
-
+-- whether a call names a handle: of an answer, whether it is among the sessions that are to move
 abbrev pub names : ℕ → Call → Bool
 names handle (opening other nonce) = eqb other handle
-names handle (answering command response) = isAmong handle (movesOf response (exchange command response))
+names handle (answering command response) = isOpen handle (movesOf response (exchange command response))
 names handle (closing other) = eqb other handle
 names handle (asking other) = false
 names handle counting = false

@@ -7,22 +7,18 @@ use native.Mathlib.Nat.{add-zero, zero-add}
 use native.Mathlib.Numerals.{add-one}
 use native.Mathlib.Omega.{arith}
 use borrow.Author.Tests.{le-leb}
-use lib.ListN.{length, take, drop, set, length-append, length-drop, take-append-drop}
+use lib.ListN.{length, take, drop, set, length-append, take-append-drop}
 use lib.Seq.{take-at, drop-drop, length-take-le, drop-append-add, set-split}
 use Rattle.base.specs.Bytes.{bytes}
 use Rattle.base.specs.Field.{laid, writeField}
 use Rattle.base.specs.Said.{after}
 use Rattle.base.proofs.Bytes.{length-bytes}
+use Rattle.base.proofs.Laid.{length-laid}
 use Rattle.marshal.specs.Laid.{Puts}
 
 -- nothing laid is nothing changed
 pub laid-none : (place : ℕ) (s : List ℕ) → laid place [] s ≡ s
 laid-none place s = ap (λ (n : ℕ). take place s ++ drop n s) (add-zero place) ∙ take-append-drop place s
-
-pub length-laid : (place : ℕ) (t s : List ℕ) → place + length t ≤ length s → length (laid place t s) ≡ length s
-length-laid place t s h =
-    let few = length-take-le place s (omega arith) in
-    simp (length-append, length-drop) (omega arith)
 
 -- what is laid behind what was laid is laid with it
 pub laid-next : (place : ℕ) (x y s : List ℕ) {later : ℕ} → later ≡ place + length x → place + length x + length y ≤ length s

@@ -1,14 +1,13 @@
 -- `keeper::answer::answer` meets its contract: the refusal of the command, of the response, an error that moves nothing, or what `settle` did.
 -- Assumes nothing.
-use mathlib.Core.Path.{_≡_, refl, sym, _∙_}
+use mathlib.Core.Path.{_≡_}
 use lib.ListN.{length}
 use denote.Ref.{now}
-use Rattle.base.specs.Said.{gives, refuses}
 use Rattle.base.proofs.Answers.{learnt}
 use Rattle.frame.specs.Answer.{saidCommandSessions, saidResponseSessions}
 use Rattle.frame.specs.Parts.{entriesOf}
-use Rattle.keeper.specs.Keeper.{settling, moving}
-use Rattle.keeper.specs.State.{held, settledIn, answeredIn, movedIn}
+use Rattle.keeper.specs.Keeper.{settling}
+use Rattle.keeper.specs.State.{held, settledIn, answeredIn}
 use Rattle.keeper.proofs.Exchanges.{answers-as, answers-none, answers-idle, command-refused, command-few, response-refused, response-few, response-kept, answered-success, answered-error}
 use borrow.Author.Needs.{needs}
 use Rattle.keeper.proofs.answer.answer.Statement.{statement}

@@ -1,11 +1,9 @@
 -- `keeper::answer::move_to` meets its contract: where there is a place the nonce is within the answer, and is stored.
 -- Assumes nothing.
-use mathlib.Core.Path.{_≡_, refl, sym, _∙_, ap}
-use Prim.Native.Nat.{ℕ, _+_, _-_, _≤_}
+use mathlib.Core.Path.{_≡_, refl, _∙_}
 use native.Mathlib.Omega.{arith}
-use lib.ListN.{length, take, drop, length-take, length-drop}
+use lib.ListN.{take}
 use denote.Ref.{now}
-use Rattle.keeper.specs.State.{renewed, renewedAt}
 use Rattle.keeper.proofs.Moves.{renewed-found, field-read, field-few}
 use borrow.Author.Needs.{needs}
 use Rattle.keeper.proofs.answer.move_to.Statement.{statement}

@@ -1,10 +1,9 @@
 -- `keeper::session::ask` meets its contract: the cases of `asked`, at the place that is found.
 -- Assumes nothing.
-use mathlib.Core.Path.{_≡_, _∙_}
 use Prim.Native.Nat.{_-_, _≤_}
 use native.Mathlib.Omega.{arith}
 use denote.Ref.{now}
-use Rattle.keeper.specs.State.{countOf, sizeAt}
+use Rattle.keeper.specs.State.{countOf}
 use Rattle.keeper.proofs.Places.{count-most, size-most}
 use Rattle.keeper.proofs.Calls.{found-inside, asked-there, asked-not}
 use borrow.Author.Needs.{needs}

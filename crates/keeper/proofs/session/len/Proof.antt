@@ -1,7 +1,6 @@
 -- `keeper::session::len` meets its contract: as many are open as are counted.
 -- Assumes nothing.
 use mathlib.Core.Path.{sym, _∙_}
-use denote.Ref.{now}
 use Rattle.keeper.proofs.Found.{length-held}
 use borrow.Author.Needs.{needs}
 use Rattle.keeper.proofs.session.len.Statement.{statement}

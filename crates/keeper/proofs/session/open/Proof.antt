@@ -1,11 +1,10 @@
 -- `keeper::session::open` meets its contract: the cases of `opened`.
 -- Assumes nothing.
-use mathlib.Core.Path.{_≡_, refl, sym, _∙_, ap}
+use mathlib.Core.Path.{_≡_, _∙_, ap}
 use Prim.Native.Nat.{_+_, _<_}
 use native.Mathlib.Omega.{arith}
 use lib.ListN.{length, set}
 use denote.Ref.{now}
-use Rattle.base.specs.Said.{after}
 use Rattle.keeper.specs.Keeper.{opened}
 use Rattle.keeper.specs.State.{countOf, held, put, openedIn}
 use Rattle.keeper.proofs.Calls.{refused, accepted, opened-already, opened-long, opened-full, opened-given, held-opened}

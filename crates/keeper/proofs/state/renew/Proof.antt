@@ -1,11 +1,11 @@
 -- `keeper::state::renew` meets its contract: the size is stored and the nonce laid, for which there is room.
 -- Assumes nothing.
-use mathlib.Core.Path.{_≡_, _∙_, ap}
+use mathlib.Core.Path.{_∙_, ap}
 use native.Mathlib.Omega.{arith}
 use lib.ListN.{length, set, length-set}
 use denote.Ref.{now}
 use Rattle.keeper.specs.State.{renewed, sizePlace, noncePlace}
-use Rattle.keeper.proofs.Places.{bytes-laid, length-laid}
+use Rattle.base.proofs.Laid.{bytes-laid, length-laid}
 use borrow.Author.Needs.{needs}
 use Rattle.keeper.proofs.state.renew.Statement.{statement}
 use Rattle.keeper.proofs.state.renew.Tie as tie
