@@ -8,6 +8,7 @@ pub mod HandingBy
 pub mod Laid
 pub mod Lending
 pub mod Lists
+pub mod Never
 pub mod Parts
 pub mod Places
 pub mod Refusals

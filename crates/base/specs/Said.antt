@@ -1,8 +1,11 @@
 -- An answer of document 01, and how an order of checks is put together, a line a check.
 -- Assumes nothing: these are definitions.
 use Prim.Native.Nat.{ℕ}
+use mathlib.Core.Path.{_≡_}
 use mathlib.Core.List.{List}
 use mathlib.Core.Bool.{Bool, true, false}
+use lib.Dec.{eqb}
+use lib.ListN.{getD}
 
 -- what was asked for, or a refusal: its number, then its fields
 pub data Said (A : Type 0) : Type 0 where
@@ -33,3 +36,11 @@ done (refuses why) = refuses why
 abbrev pub after : {A : Type 0} → A → Said A → A
 after old (gives new) = new
 after old (refuses why) = old
+
+-- whether it is a refusal by a number, and an answer that never is
+abbrev pub refusesBy : {A : Type 0} → ℕ → Said A → Bool
+refusesBy n (gives a) = false
+refusesBy n (refuses why) = eqb (getD why 0 0) n
+
+abbrev pub Never : {A : Type 0} → ℕ → Said A → Type 0
+Never n said = refusesBy n said ≡ false

@@ -1,4 +1,5 @@
 pub mod Laws
+pub mod Never
 pub mod Rooms
 pub mod Single
 pub mod Views

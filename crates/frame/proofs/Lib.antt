@@ -7,6 +7,7 @@ pub mod FrameLaws
 pub mod Headers
 pub mod Laws
 pub mod Limits
+pub mod Never
 pub mod Readings
 pub mod ResponseLaws
 pub mod RulesByValue

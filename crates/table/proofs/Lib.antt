@@ -1,4 +1,5 @@
 pub mod Answers
+pub mod Never
 pub mod Rows
 pub mod Single
 pub mod Table
