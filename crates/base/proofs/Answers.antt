@@ -21,9 +21,11 @@ use Rattle.base.specs.declared.answer.ResponseCode.{ResponseCode}
 use Rattle.base.specs.declared.answer.ResponseCode.the-variants as response-code
 use Rattle.base.specs.declared.answer.Range.{Range}
 use Rattle.base.specs.declared.answer.Range.the-variants as range
+use Rattle.base.specs.declared.answer.Total.{Total}
+use Rattle.base.specs.declared.answer.Total.the-variants as total
 use Rattle.base.specs.Said.{Said, gives, refuses}
-use Rattle.base.specs.Answer.{saidOutcome, saidNumber16, saidNumber32, saidCount, saidFlag, saidTag, saidCommandCode, saidResponseCode, Part, saidRange}
-use Rattle.base.proofs.Refusals.{named, named-numbered}
+use Rattle.base.specs.Answer.{saidOutcome, saidNumber16, saidNumber32, saidCount, saidFlag, saidTag, saidCommandCode, saidResponseCode, Part, saidRange, saidTotal}
+use Rattle.base.proofs.Refusals.{named, named-numbered, writerNamed, writerNamed-numbered}
 
 -- a function with a left inverse is injective
 pub injective-by : {A B : Type 0} (f : A → B) (back : B → A) → ((a : A) → back (f a) ≡ a) → (a b : A) → f a ≡ f b → a ≡ b
@@ -112,3 +114,14 @@ told-range (range.Refused e) = ap range.Refused (named-numbered e)
 
 pub saidRange-injective : (a b : Range) → saidRange a ≡ saidRange b → a ≡ b
 saidRange-injective = injective-by saidRange (unsaid rangeOf range.Refused) told-range
+
+abbrev totalOf : Said ℕ → Total
+totalOf (gives n) = total.Is n
+totalOf (refuses why) = total.Refused (writerNamed why)
+
+told-total : (a : Total) → totalOf (saidTotal a) ≡ a
+told-total (total.Is n) = refl
+told-total (total.Refused e) = ap total.Refused (writerNamed-numbered e)
+
+pub saidTotal-injective : (a b : Total) → saidTotal a ≡ saidTotal b → a ≡ b
+saidTotal-injective = injective-by saidTotal totalOf told-total

@@ -20,7 +20,9 @@ use Rattle.base.specs.declared.answer.ResponseCode.{ResponseCode}
 use Rattle.base.specs.declared.answer.ResponseCode.the-variants as response-code
 use Rattle.base.specs.declared.answer.Range.{Range}
 use Rattle.base.specs.declared.answer.Range.the-variants as range
-use Rattle.base.specs.Error.{numbered}
+use Rattle.base.specs.declared.answer.Total.{Total}
+use Rattle.base.specs.declared.answer.Total.the-variants as total
+use Rattle.base.specs.Error.{numbered, writerNumbered}
 use Rattle.base.specs.Said.{Said, gives, refuses}
 
 abbrev pub saidOutcome : Outcome → Said (Unit {0})
@@ -64,3 +66,7 @@ pub record Part : Type 0 where
 abbrev pub saidRange : Range → Said Part
 saidRange (range.Is from to) = gives (record { from = from; to = to })
 saidRange (range.Refused e) = refuses (numbered e)
+
+abbrev pub saidTotal : Total → Said ℕ
+saidTotal (total.Is n) = gives n
+saidTotal (total.Refused e) = refuses (writerNumbered e)

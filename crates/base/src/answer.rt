@@ -3,6 +3,7 @@ use crate::code::TpmCc;
 use crate::code::TpmRc;
 use crate::code::TpmSt;
 use crate::error::TpmError;
+use crate::error::WriteError;
 
 // Of a call that only does or checks something.
 pub enum Outcome {
@@ -50,4 +51,10 @@ pub enum ResponseCode {
 pub enum Range {
     Is { from: usize, to: usize },
     Refused(TpmError),
+}
+
+// Of a writer: the bytes of a frame.
+pub enum Total {
+    Is(usize),
+    Refused(WriteError),
 }

@@ -1,6 +1,7 @@
 // The nine refusals, under the names of the crate's TpmError. Document 01 gives each its number and the order of its
-// fields (specs/Error.antt, numbered).
+// fields (specs/Error.antt).
 
+// The eight that readers, setters, buffers and writers share.
 pub enum TpmError {
     UnexpectedEnd {
         offset: usize,
@@ -28,10 +29,6 @@ pub enum TpmError {
         limit: usize,
         actual: usize,
     },
-    IntegerTooLarge {
-        offset: usize,
-        value: u64,
-    },
     TooManyBytes {
         offset: usize,
         limit: usize,
@@ -42,4 +39,10 @@ pub enum TpmError {
         needed: usize,
         available: usize,
     },
+}
+
+// What a writer refuses with: one of those, or a total that its field cannot hold.
+pub enum WriteError {
+    Common(TpmError),
+    IntegerTooLarge { offset: usize, value: u64 },
 }

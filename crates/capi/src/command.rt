@@ -178,7 +178,7 @@ pub extern "C" fn skein_command_write(
                 parameters,
                 room,
             );
-            out::count(written, out)
+            out::total(written, out)
         }
     }
 }

@@ -1,8 +1,8 @@
 // How an answer goes out: one place for every call.
 ghost use mathlib.Core.Path.{_≡_};
 ghost use mathlib.Core.List.{[], _∷_};
-ghost use Rattle.base.specs.Error.{numbered};
-ghost use Rattle.base.specs.Answer.{saidCommandCode, saidCount, saidFlag, saidNumber16, saidNumber32, saidOutcome, saidRange, saidResponseCode, saidTag};
+ghost use Rattle.base.specs.Error.{numbered, writerNumbered};
+ghost use Rattle.base.specs.Answer.{saidCommandCode, saidCount, saidFlag, saidNumber16, saidNumber32, saidOutcome, saidRange, saidResponseCode, saidTag, saidTotal};
 ghost use Rattle.capi.specs.Frame.{partAndTail};
 ghost use Rattle.capi.specs.Out.{Reports, answerOver, ends, first, none, one, refusalOver, truth};
 use base::answer::CommandCode;
@@ -14,7 +14,9 @@ use base::answer::Outcome;
 use base::answer::Range;
 use base::answer::ResponseCode;
 use base::answer::Tag;
+use base::answer::Total;
 use base::error::TpmError;
+use base::error::WriteError;
 
 // The lent array: an answer's numbers from place 0 on, at most four; a refusal's fields from place 4 on.
 pub type Numbers = [u64; 8];
@@ -58,7 +60,6 @@ pub(crate) fn refuse(e: TpmError, out: &mut Numbers) -> u32
             limit,
             actual,
         } => three(6, offset, limit, actual, out),
-        TpmError::IntegerTooLarge { offset, value } => two(7, offset, value, out),
         TpmError::TooManyBytes {
             offset,
             limit,
@@ -69,6 +70,17 @@ pub(crate) fn refuse(e: TpmError, out: &mut Numbers) -> u32
             needed,
             available,
         } => three(9, offset, needed, available, out),
+    }
+}
+
+// A writer's: the same, and 7.
+fn refuse_writing(e: WriteError, out: &mut Numbers) -> u32
+    ensures { λ r. ⌜ r ≡ first (writerNumbered e) ⌝ }
+    ensures { λ r. ⌜ now (out .exit) ≡ refusalOver (writerNumbered e) (now (out .entry)) ⌝ }
+{
+    match e {
+        WriteError::Common(e) => refuse(e, out),
+        WriteError::IntegerTooLarge { offset, value } => two(7, offset, value, out),
     }
 }
 
@@ -125,6 +137,19 @@ pub(crate) fn count(a: Count, out: &mut Numbers) -> u32
             0
         }
         Count::Refused(e) => refuse(e, out),
+    }
+}
+
+// Of a writer.
+pub(crate) fn total(a: Total, out: &mut Numbers) -> u32
+    ensures { λ r. ⌜ Reports one (saidTotal a) (now (out .entry)) (now (out .exit)) r ⌝ }
+{
+    match a {
+        Total::Is(n) => {
+            out[0] = n as u64;
+            0
+        }
+        Total::Refused(e) => refuse_writing(e, out),
     }
 }
 

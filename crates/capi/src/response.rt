@@ -163,7 +163,7 @@ pub extern "C" fn skein_response_write(
                 parameters,
                 room,
             );
-            out::count(written, out)
+            out::total(written, out)
         }
     }
 }

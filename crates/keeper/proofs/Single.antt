@@ -54,7 +54,6 @@ told-frame (error.InvalidTag o v) = refl
 told-frame (error.InvalidCc o v) = refl
 told-frame (error.InvalidRc o v) = refl
 told-frame (error.TooManyItems o l a) = refl
-told-frame (error.IntegerTooLarge o v) = refl
 told-frame (error.TooManyBytes o l a) = refl
 told-frame (error.BufferOverflow o n a) = refl
 

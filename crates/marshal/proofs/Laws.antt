@@ -14,8 +14,8 @@ use borrow.Author.Tests.{eqb-true}
 use lib.Dec.{eqb}
 use lib.ListN.{length, take, drop}
 use denote.Ref.{now}
-use Rattle.base.specs.declared.answer.Count.{Count}
-use Rattle.base.specs.Answer.{saidCount}
+use Rattle.base.specs.declared.answer.Total.{Total}
+use Rattle.base.specs.Answer.{saidTotal}
 use Rattle.base.specs.Bytes.{AreBytes}
 use Rattle.base.specs.Members.{isIn}
 use Rattle.base.specs.Said.{Said, gives, refuses}
@@ -139,7 +139,7 @@ refused-leaves room e = ap (roomAfter room) e
 abbrev Bare : ℕ → ℕ → Type 0
 Bare tag count = (tag ≡ sessions) × (count ≡ 0)
 
-module _ (book : Rulebook) (tag code : ℕ) (h : Handed) (room : List ℕ) (x : Count) (later : List ℕ) where
+module _ (book : Rulebook) (tag code : ℕ) (h : Handed) (room : List ℕ) (x : Total) (later : List ℕ) where
   abbrev CommandFrom : List ℕ → Command → Type 0
   CommandFrom s c = (tag ≡ c .tag .0) × (code ≡ c .cc .0) × (h ≡ commandHanded s c)
 
@@ -149,13 +149,13 @@ module _ (book : Rulebook) (tag code : ℕ) (h : Handed) (room : List ℕ) (x : 
       Writes (book .longest) (λ s. commandByValue s (readCommand book s)) commandParts layoutCommand (CommandFormed book)
       CommandFrom (λ c. Bare (c .tag .0) (c .entries .count)) h code (commandFrame tag code h) room x later
       × ((s : List ℕ) (c : Command) → CommandFrom s c → Bare (c .tag .0) (c .entries .count) → Refused room x later (3 ∷ 0 ∷ 0x8002 ∷ []))
-      × ((n : ℕ) → (saidCount x ≡ refuses (7 ∷ 0 ∷ n ∷ [])) ↔ CommandTooLarge book tag code h n)
+      × ((n : ℕ) → (saidTotal x ≡ refuses (7 ∷ 0 ∷ n ∷ [])) ↔ CommandTooLarge book tag code h n)
 
   abbrev commandSaid : Said (List ℕ)
   commandSaid = writeCommand book tag code h (length room)
 
   command-writes : ((c : ℕ) (r : Row) → rowFor (book .rows) c ≡ gives r → isIn c (book .known) ≡ true)
-      → saidCount x ≡ counted commandSaid → later ≡ roomAfter room commandSaid → CommandWrites
+      → saidTotal x ≡ counted commandSaid → later ≡ roomAfter room commandSaid → CommandWrites
   command-writes has answer bytes =
       let back : (s : List ℕ) (c : Command) → CommandFrom s c
       → commandSaid ≡ writeCommand book (c .tag .0) (c .cc .0) (commandHanded s c) (length room) =
@@ -181,7 +181,7 @@ pub command-write : Promised 4 command-write-kinds.ps command-write-kinds.r comm
     CommandWrites (bookOf (a .0)) (a .1 .0 .0) (a .1 .1 .0 .0) h (now (a .1 .1 .1 .1 .1 .1 .1 .0)) x (now (later .1 .1 .1 .1 .1 .1 .1 .0)))
 command-write κs a x v met = command-writes (bookOf (a .0)) (a .1 .0 .0) (a .1 .1 .0 .0) _ _ x _ has-code (met .0) (met .1)
 
-module _ (book : Rulebook) (asks : Bool) (cc code : ℕ) (h : Handed) (room : List ℕ) (x : Count) (later : List ℕ) where
+module _ (book : Rulebook) (asks : Bool) (cc code : ℕ) (h : Handed) (room : List ℕ) (x : Total) (later : List ℕ) where
   -- the tag of the answer to a bad tag is asked for where it was read
   abbrev ResponseFrom : List ℕ → Response → Type 0
   ResponseFrom s r = (asks ≡ eqb (r .tag .0) rspCommand) × (code ≡ r .rc .0) × (h ≡ responseHanded s r)
@@ -194,12 +194,12 @@ module _ (book : Rulebook) (asks : Bool) (cc code : ℕ) (h : Handed) (room : Li
       × ((s : List ℕ) → AreBytes s → (r : Response) → responseByValue s (readResponse book cc s) ≡ gives r → ResponseFrom s r
       → Bare (r .tag .0) (r .entries .count) → length s - 4 ≤ length room
       → Written room x later (shorter s r) × (length (shorter s r) + 4 ≡ length s))
-      × ((n : ℕ) → (saidCount x ≡ refuses (7 ∷ 0 ∷ n ∷ [])) ↔ ResponseTooLarge book asks cc code h n)
+      × ((n : ℕ) → (saidTotal x ≡ refuses (7 ∷ 0 ∷ n ∷ [])) ↔ ResponseTooLarge book asks cc code h n)
 
   abbrev responseSaid : Said (List ℕ)
   responseSaid = writeResponse book asks cc code h (length room)
 
-  response-writes : (asks ≡ true → book .answersBadTag ≡ true) → saidCount x ≡ counted responseSaid → later ≡ roomAfter room responseSaid → ResponseWrites
+  response-writes : (asks ≡ true → book .answersBadTag ≡ true) → saidTotal x ≡ counted responseSaid → later ≡ roomAfter room responseSaid → ResponseWrites
   response-writes may answer bytes =
       let back : (s : List ℕ) (r : Response) → ResponseFrom s r
       → responseSaid ≡ writeResponse book (eqb (r .tag .0) rspCommand) cc (r .rc .0) (responseHanded s r) (length room) =

@@ -9,11 +9,13 @@ use native.Mathlib.Omega.{arith}
 use borrow.Author.Tests.{le-leb, lt-leb, leb-true, leb-false, eqb-true}
 use lib.Dec.{eqb, leb, ltb}
 use lib.ListN.{length, getD}
-use Rattle.base.specs.Said.{Said, gives, refuses, needs, then, given}
+use Rattle.base.specs.Said.{Said, gives, refuses, Never, needs, then, given}
 use Rattle.base.proofs.Checks.{stops, gives≢refuses, refuses-injective}
+use Rattle.base.proofs.Never.{by-needs, by-then, by-step, not-by}
 use Rattle.rc.specs.Code.{readCode}
 use Rattle.table.specs.Table.{rowFor}
 use Rattle.table.specs.declared.row.Row.{Row}
+use Rattle.table.proofs.Never.{never-row}
 use Rattle.frame.specs.declared.session.Field.{Field}
 use Rattle.frame.specs.declared.session.Session.{Session}
 use Rattle.frame.specs.Header.{sessions, badTag, isOfTwo}
@@ -60,29 +62,17 @@ passed : {A : Type 0} (t : Bool) (why : List ℕ) (rest : Said A) {w : List ℕ}
     → (t ≡ true) × (rest ≡ refuses w)
 passed t why rest {w} other e = elim (needs-refuses t why rest e) [ inl p ↦ p | inr same ↦ absurd (other (ap (λ (l : List ℕ). getD l 0 0) (same .1))) ]
 
--- a row is refused with 4, a session with 8 or 1
-row-number : (rows : List Row) (code : ℕ) {w : List ℕ} → rowFor rows code ≡ refuses w → getD w 0 0 ≡ 4
-row-number [] code e = ap (λ (l : List ℕ). getD l 0 0) (sym (refuses-injective e))
-row-number (r ∷ rows) code e = elim (cond-refuses (eqb code (r .code)) (gives r) (rowFor rows code) e) [
-  | inl found ↦ absurd (gives≢refuses (found .1))
-  | inr other ↦ row-number rows code (other .1)
-]
+-- no session is refused by 7
+never-there : (limit len : ℕ) (f : Field) → Never 7 (fieldThere limit len f)
+never-there limit len f = by-needs (leb (f .size) limit) _ _ refl (by-needs (leb (f .at + f .size) len) _ (gives tt) refl refl)
 
-field-number : (limit len : ℕ) (f : Field) {w : List ℕ} → fieldThere limit len f ≡ refuses w → getD w 0 0 ≡ 7 → ⊥
-field-number limit len f e seven =
-    let there = passed (leb (f .size) limit) _ _ (λ q. omega arith) e in
-    gives≢refuses (passed (leb (f .at + f .size) len) _ (gives tt) (λ q. omega arith) (there .1) .1)
-
-session-number : (limit len : ℕ) (es : List Session) {w : List ℕ} → sessionsThere limit len es ≡ refuses w → getD w 0 0 ≡ 7 → ⊥
+never-sessions : (limit len : ℕ) (es : List Session) → Never 7 (sessionsThere limit len es)
 unfolding sessionsThere
-session-number limit len [] e = absurd (gives≢refuses e)
-session-number limit len (x ∷ es) e = elim (then-refuses (sessionThere limit len x) _ e) [
-  | inl p ↦ session-number limit len es (p .2)
-  | inr first ↦ elim (then-refuses (fieldThere limit len (x .nonce)) _ first) [
-    | inl p ↦ field-number limit len (x .hmac) (p .2)
-    | inr nonce ↦ field-number limit len (x .nonce) nonce
-  ]
-]
+never-sessions limit len [] = refl
+never-sessions limit len (e ∷ es) =
+    by-then (sessionThere limit len e) _
+    (by-then (fieldThere limit len (e .nonce)) _ (never-there limit len (e .nonce)) (λ nonce. never-there limit len (e .hmac)))
+    (λ first. never-sessions limit len es)
 
 -- ---- behind the handles
 
@@ -101,7 +91,7 @@ module _ (limit width tag handles : ℕ) (h : Handed) (room n : ℕ) where
       let low = leb-true (4 * handles) (length (h .handles)) (few .0) in
       let high = leb-true (length (h .handles)) (4 * handles) (many .0) in
       elim (then-refuses (sessionsThere limit (length (h .lent)) (entriesOf (h .sessions))) _ (many .1)) [
-        | inr missing ↦ absurd (session-number limit (length (h .lent)) (entriesOf (h .sessions)) missing refl)
+        | inr missing ↦ absurd (not-by (sessionsThere limit (length (h .lent)) (entriesOf (h .sessions))) (never-sessions limit (length (h .lent)) (entriesOf (h .sessions))) missing refl)
         | inl p ↦ elim (needs-refuses (leb (totalSize width tag h) 4294967295) _ (fitted (totalSize width tag h) room) (p .2)) [
           | inl q ↦ absurd (gives≢refuses (passed (leb (totalSize width tag h) room) _ (gives (totalSize width tag h)) (λ q. omega arith) (q .1) .1))
           | inr large ↦ record {
@@ -137,7 +127,7 @@ module _ (book : Rulebook) (tag code : ℕ) (h : Handed) (room n : ℕ) where
       let agree = passed (Bool·beq (eqb tag sessions) (ltb 0 (h .sessions .count))) _ _ (λ q. omega arith) (two .1) in
       let few = passed (leb (h .sessions .count) 3) _ _ (λ q. omega arith) (agree .1) in
       elim (then-refuses (rowFor (book .rows) code) _ (few .1)) [
-        | inr none ↦ let four = row-number (book .rows) code none in absurd (omega arith)
+        | inr none ↦ absurd (not-by (rowFor (book .rows) code) (never-row (book .rows) code) none refl)
         | inl found ↦ elim (then-refuses (judged (book .longest) 4 tag (found .0 .handles) h room) _ (found .2)) [
           | inl p ↦ absurd (gives≢refuses (p .2))
           | inr large ↦ record {
@@ -168,22 +158,17 @@ pub record ResponseTooLarge (book : Rulebook) (asked : Bool) (cc code : ℕ) (h 
   pub success : code ≡ 0
   pub too-large : TooLarge (book .longest) 0 (tagFor (h .sessions .count)) (row .responses) h n
 
-module _ (code count room n : ℕ) where
-  bare-no-total : (asked : Bool) → writeBare asked code room ≡ refuses (7 ∷ 0 ∷ n ∷ []) → ⊥
-  bare-no-total asked e = elim (then-refuses (fitted 10 room) _ e) [
-    | inl p ↦ gives≢refuses (p .2)
-    | inr short ↦ gives≢refuses (passed (leb 10 room) _ (gives 10) (λ q. omega arith) short .1)
-  ]
+module _ (code count room : ℕ) where
+  never-bare : (asked : Bool) → Never 7 (writeBare asked code room)
+  never-bare asked = by-step (fitted 10 room) _ (by-needs (leb 10 room) _ (gives 10) refl refl)
 
-  error-no-total : writeError code count room ≡ refuses (7 ∷ 0 ∷ n ∷ []) → ⊥
+  never-error : Never 7 (writeError code count room)
   unfolding writeError
-  error-no-total e = bare-no-total false (passed (eqb count 0) _ _ (λ q. omega arith) e .1)
+  never-error = by-needs (eqb count 0) _ (writeBare false code room) refl (never-bare false)
 
-  bad-tag-no-total : writeBadTag code count room ≡ refuses (7 ∷ 0 ∷ n ∷ []) → ⊥
+  never-bad-tag : Never 7 (writeBadTag code count room)
   unfolding writeBadTag
-  bad-tag-no-total e =
-      let alone = passed (eqb code 0 || eqb count 0) _ _ (λ q. omega arith) e in
-      bare-no-total true (passed (eqb code badTag) _ _ (λ q. omega arith) (alone .1) .1)
+  never-bad-tag = by-needs (eqb code 0 || eqb count 0) _ _ refl (by-needs (eqb code badTag) _ (writeBare true code room) refl (never-bare true))
 
 module _ (book : Rulebook) (asked : Bool) (cc code : ℕ) (h : Handed) (room n : ℕ) where
   response-is-too-large : writeResponse book asked cc code h room ≡ refuses (7 ∷ 0 ∷ n ∷ []) → ResponseTooLarge book asked cc code h n
@@ -191,13 +176,13 @@ module _ (book : Rulebook) (asked : Bool) (cc code : ℕ) (h : Handed) (room n :
   response-is-too-large e =
       let few = passed (leb (h .sessions .count) 3) _ _ (λ q. omega arith) e in
       elim (then-refuses (rowFor (book .rows) cc) _ (few .1)) [
-        | inr none ↦ let four = row-number (book .rows) cc none in absurd (omega arith)
+        | inr none ↦ absurd (not-by (rowFor (book .rows) cc) (never-row (book .rows) cc) none refl)
         | inl found ↦
             let reads = passed (given (readCode code) || (asked && eqb code badTag)) _ _ (λ q. omega arith) (found .2) in
             elim (cond-refuses asked (writeBadTag code (h .sessions .count) room) _ (reads .1)) [
-              | inl is ↦ absurd (bad-tag-no-total code (h .sessions .count) room n (is .1))
+              | inl is ↦ absurd (not-by (writeBadTag code (h .sessions .count) room) (never-bad-tag code (h .sessions .count) room) (is .1) refl)
               | inr not ↦ elim (cond-refuses (eqb code 0) (writeSuccess book (found .0 .responses) h room) (writeError code (h .sessions .count) room) (not .1)) [
-                | inr error ↦ absurd (error-no-total code (h .sessions .count) room n (error .1))
+                | inr error ↦ absurd (not-by (writeError code (h .sessions .count) room) (never-error code (h .sessions .count) room) (error .1) refl)
                 | inl success ↦ elim (then-refuses (judged (book .longest) 0 (tagFor (h .sessions .count)) (found .0 .responses) h room) _ (success .1)) [
                   | inl p ↦ absurd (gives≢refuses (p .2))
                   | inr large ↦ record {

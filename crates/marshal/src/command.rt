@@ -1,7 +1,7 @@
 // The writer of commands.
 ghost use mathlib.Core.Path.{_≡_};
 ghost use lib.ListN.{length};
-ghost use Rattle.base.specs.Answer.{saidCount};
+ghost use Rattle.base.specs.Answer.{saidTotal};
 ghost use Rattle.frame.specs.Layout.{layoutCommand};
 ghost use Rattle.frame.specs.Rules.{bookOf};
 ghost use Rattle.marshal.specs.Handed.{commandFrame, handed};
@@ -11,13 +11,14 @@ use crate::put::put;
 use crate::put::put_entries;
 use crate::put::put_header;
 use crate::put::put_u32;
+use crate::total::common;
 use crate::total::entries_length;
 use crate::total::found;
 use crate::total::judge;
 use crate::total::look;
 use crate::total::tag_for;
 use crate::total::too_many;
-use base::answer::Count;
+use base::answer::Total;
 use base::code::TpmCc;
 use base::code::TpmSt;
 use frame::rules::Rules;
@@ -37,15 +38,15 @@ fn judge_command(
     lent: &[u8],
     parameters: &[u8],
     room: usize,
-) -> Count
-    ensures { λ r. ⌜ saidCount r ≡ counted (writeCommand (bookOf rules) (tag .0) (cc .0) (handed (now (handles .entry)) sessions (now (lent .entry)) (now (parameters .entry))) room) ⌝ }
+) -> Total
+    ensures { λ r. ⌜ saidTotal r ≡ counted (writeCommand (bookOf rules) (tag .0) (cc .0) (handed (now (handles .entry)) sessions (now (lent .entry)) (now (parameters .entry))) room) ⌝ }
 {
     if tag.0 == tag_for(sessions.count) {
         if MAX_SESSIONS < sessions.count {
-            return Count::Refused(too_many(sessions.count));
+            return common(too_many(sessions.count));
         }
         return match find(cc) {
-            Found::Refused(e) => Count::Refused(e),
+            Found::Refused(e) => common(e),
             Found::Is(row) => {
                 let limit = longest(rules);
                 let looked = look(limit, sessions, lent.len());
@@ -60,7 +61,7 @@ fn judge_command(
             }
         };
     }
-    Count::Refused(tag.refused(0))
+    common(tag.refused(0))
 }
 
 // Lays out a command that was judged.
@@ -99,8 +100,8 @@ pub fn write(
     lent: &[u8],
     parameters: &[u8],
     room: &mut [u8],
-) -> Count
-    ensures answer { λ r. ⌜ saidCount r ≡ counted (writeCommand (bookOf rules) (tag .0) (cc .0) (handed (now (handles .entry)) sessions (now (lent .entry)) (now (parameters .entry))) (length (now (room .entry)))) ⌝ }
+) -> Total
+    ensures answer { λ r. ⌜ saidTotal r ≡ counted (writeCommand (bookOf rules) (tag .0) (cc .0) (handed (now (handles .entry)) sessions (now (lent .entry)) (now (parameters .entry))) (length (now (room .entry)))) ⌝ }
     ensures bytes { λ r. ⌜ now (room .exit) ≡ roomAfter (now (room .entry)) (writeCommand (bookOf rules) (tag .0) (cc .0) (handed (now (handles .entry)) sessions (now (lent .entry)) (now (parameters .entry))) (length (now (room .entry)))) ⌝ }
 {
     let judged = judge_command(
@@ -113,7 +114,7 @@ pub fn write(
         parameters,
         room.len(),
     );
-    let Count::Is(total) = judged else {
+    let Total::Is(total) = judged else {
         return judged;
     };
     lay_command(tag, cc, handles, sessions, lent, parameters, total, room);

@@ -4,7 +4,7 @@ ghost use mathlib.Core.Bool.{_||_};
 ghost use mathlib.Core.List.{[], _∷_};
 ghost use lib.Dec.{eqb};
 ghost use lib.ListN.{length};
-ghost use Rattle.base.specs.Answer.{saidCount};
+ghost use Rattle.base.specs.Answer.{saidTotal};
 ghost use Rattle.base.specs.Said.{given, needs};
 ghost use Rattle.rc.specs.Code.{readCode};
 ghost use Rattle.frame.specs.Header.{badTag};
@@ -20,6 +20,7 @@ use crate::put::put;
 use crate::put::put_entries;
 use crate::put::put_header;
 use crate::put::put_u32;
+use crate::total::common;
 use crate::total::entries_length;
 use crate::total::fits;
 use crate::total::found;
@@ -27,7 +28,7 @@ use crate::total::judge;
 use crate::total::look;
 use crate::total::tag_for;
 use crate::total::too_many;
-use base::answer::Count;
+use base::answer::Total;
 use base::code::TpmCc;
 use base::code::TpmRc;
 use base::code::TpmSt;
@@ -45,40 +46,40 @@ use table::dispatch::find;
 use table::row::Found;
 
 // A code other than success, with so many sessions.
-fn judge_error(rc: TpmRc, count: usize, room: usize) -> Count
-    ensures { λ r. ⌜ saidCount r ≡ needs (given (readCode (rc .0))) (5 ∷ 0 ∷ rc .0 ∷ []) (counted (writeError (rc .0) count room)) ⌝ }
+fn judge_error(rc: TpmRc, count: usize, room: usize) -> Total
+    ensures { λ r. ⌜ saidTotal r ≡ needs (given (readCode (rc .0))) (5 ∷ 0 ∷ rc .0 ∷ []) (counted (writeError (rc .0) count room)) ⌝ }
 {
     match read(rc) {
-        Answer::Refused(_) => Count::Refused(rc.refused(0)),
+        Answer::Refused(_) => common(rc.refused(0)),
         Answer::Code(_) => {
             if count == 0 {
                 return fits(HEADER_SIZE, room);
             }
-            Count::Refused(TpmSt(SESSIONS).refused(0))
+            common(TpmSt(SESSIONS).refused(0))
         }
     }
 }
 
 // The same with the tag of the answer to a bad tag asked for, which no other code gets.
-fn judge_bad_tag(rc: TpmRc, count: usize, room: usize) -> Count
-    ensures { λ r. ⌜ saidCount r ≡ needs (given (readCode (rc .0)) || eqb (rc .0) badTag) (5 ∷ 0 ∷ rc .0 ∷ []) (counted (writeBadTag (rc .0) count room)) ⌝ }
+fn judge_bad_tag(rc: TpmRc, count: usize, room: usize) -> Total
+    ensures { λ r. ⌜ saidTotal r ≡ needs (given (readCode (rc .0)) || eqb (rc .0) badTag) (5 ∷ 0 ∷ rc .0 ∷ []) (counted (writeBadTag (rc .0) count room)) ⌝ }
 {
     if rc.0 == BAD_TAG {
         if count == 0 {
             return fits(HEADER_SIZE, room);
         }
-        return Count::Refused(TpmSt(SESSIONS).refused(0));
+        return common(TpmSt(SESSIONS).refused(0));
     }
     if rc.0 == 0 {
-        return Count::Refused(rc.refused(0));
+        return common(rc.refused(0));
     }
     match read(rc) {
-        Answer::Refused(_) => Count::Refused(rc.refused(0)),
+        Answer::Refused(_) => common(rc.refused(0)),
         Answer::Code(_) => {
             if count == 0 {
-                return Count::Refused(rc.refused(0));
+                return common(rc.refused(0));
             }
-            Count::Refused(TpmSt(SESSIONS).refused(0))
+            common(TpmSt(SESSIONS).refused(0))
         }
     }
 }
@@ -104,14 +105,14 @@ fn judge_response(
     lent: &[u8],
     parameters: &[u8],
     room: usize,
-) -> Count
-    ensures { λ r. ⌜ saidCount r ≡ counted (writeResponse (bookFor rules) (asked rules) (cc .0) (rc .0) (handed (now (handles .entry)) sessions (now (lent .entry)) (now (parameters .entry))) room) ⌝ }
+) -> Total
+    ensures { λ r. ⌜ saidTotal r ≡ counted (writeResponse (bookFor rules) (asked rules) (cc .0) (rc .0) (handed (now (handles .entry)) sessions (now (lent .entry)) (now (parameters .entry))) room) ⌝ }
 {
     if MAX_SESSIONS < sessions.count {
-        return Count::Refused(too_many(sessions.count));
+        return common(too_many(sessions.count));
     }
     match find(cc) {
-        Found::Refused(e) => Count::Refused(e),
+        Found::Refused(e) => common(e),
         Found::Is(row) => {
             if asks_bad_tag(rules) {
                 return judge_bad_tag(rc, sessions.count, room);
@@ -167,8 +168,8 @@ pub fn write(
     lent: &[u8],
     parameters: &[u8],
     room: &mut [u8],
-) -> Count
-    ensures answer { λ r. ⌜ saidCount r ≡ counted (writeResponse (bookFor rules) (asked rules) (cc .0) (rc .0) (handed (now (handles .entry)) sessions (now (lent .entry)) (now (parameters .entry))) (length (now (room .entry)))) ⌝ }
+) -> Total
+    ensures answer { λ r. ⌜ saidTotal r ≡ counted (writeResponse (bookFor rules) (asked rules) (cc .0) (rc .0) (handed (now (handles .entry)) sessions (now (lent .entry)) (now (parameters .entry))) (length (now (room .entry)))) ⌝ }
     ensures bytes { λ r. ⌜ now (room .exit) ≡ roomAfter (now (room .entry)) (writeResponse (bookFor rules) (asked rules) (cc .0) (rc .0) (handed (now (handles .entry)) sessions (now (lent .entry)) (now (parameters .entry))) (length (now (room .entry)))) ⌝ }
 {
     let judged = judge_response(
@@ -181,7 +182,7 @@ pub fn write(
         parameters,
         room.len(),
     );
-    let Count::Is(total) = judged else {
+    let Total::Is(total) = judged else {
         return judged;
     };
     if rc.0 == 0 {

@@ -4,9 +4,9 @@ ghost use mathlib.Core.List.{[], _∷_};
 ghost use Prim.Native.Nat.{ℕ, _+_, _-_, _≤_};
 ghost use mathlib.Core.Bool.{cond};
 ghost use lib.Dec.{eqb, leb};
-ghost use Rattle.base.specs.Answer.{saidCount};
+ghost use Rattle.base.specs.Answer.{saidCount, saidTotal};
 ghost use Rattle.base.specs.Error.{numbered};
-ghost use Rattle.base.specs.Said.{given, gives, then};
+ghost use Rattle.base.specs.Said.{given, gives, refuses, then};
 ghost use lib.ListN.{length};
 ghost use Rattle.frame.specs.Answer.{handleWidth};
 ghost use Rattle.frame.specs.Header.{sessions};
@@ -15,7 +15,9 @@ ghost use Rattle.marshal.specs.Handed.{Handed, tagFor};
 ghost use Rattle.marshal.specs.Looked.{saidLooked, whyNot};
 ghost use Rattle.marshal.specs.Write.{capped, entriesLength, entriesSaid, entryLength, fieldThere, fitted, judged, sessionThere, sessionsThere};
 use base::answer::Count;
+use base::answer::Total;
 use base::error::TpmError;
+use base::error::WriteError;
 use base::field::left;
 use frame::header::HEADER_SIZE;
 use frame::header::PLAIN;
@@ -182,18 +184,25 @@ pub(crate) fn found(limit: usize, lent: usize, looked: Looked, length: usize) ->
     }
 }
 
+// A refusal that a writer has in common with readers.
+pub(crate) fn common(e: TpmError) -> Total
+    ensures { λ r. ⌜ saidTotal r ≡ refuses (numbered e) ⌝ }
+{
+    Total::Refused(WriteError::Common(e))
+}
+
 // The total, where there is room for it.
-pub(crate) fn fits(total: usize, room: usize) -> Count
-    ensures { λ r. ⌜ saidCount r ≡ fitted total room ⌝ }
+pub(crate) fn fits(total: usize, room: usize) -> Total
+    ensures { λ r. ⌜ saidTotal r ≡ fitted total room ⌝ }
 {
     if room < total {
-        return Count::Refused(TpmError::BufferOverflow {
+        return common(TpmError::BufferOverflow {
             offset: 0,
             needed: total,
             available: room,
         });
     }
-    Count::Is(total)
+    Total::Is(total)
 }
 
 // What both writers judge, from the handles on: so many handle bytes, entries as they were found, so many parameter bytes. Three entries
@@ -205,33 +214,35 @@ pub(crate) fn judge(
     entries: Count,
     parameters: usize,
     room: usize,
-) -> Count
+) -> Total
     requires { ⌜ ((n : ℕ) → saidCount entries ≡ gives n → n ≤ 393237) ⌝ }
-    ensures { λ r. ⌜ ((limit width : ℕ) (h : Handed) → length (h .handles) ≡ handles → saidCount entries ≡ entriesSaid limit width (length (h .lent)) (entriesOf (h .sessions)) → length (h .parameters) ≡ parameters → saidCount r ≡ judged limit width tag count h room) ⌝ }
+    ensures { λ r. ⌜ ((limit width : ℕ) (h : Handed) → length (h .handles) ≡ handles → saidCount entries ≡ entriesSaid limit width (length (h .lent)) (entriesOf (h .sessions)) → length (h .parameters) ≡ parameters → saidTotal r ≡ judged limit width tag count h room) ⌝ }
 {
     let needed = 4 * (count as usize);
     if handles < needed {
-        return Count::Refused(TpmError::UnexpectedEnd {
+        return common(TpmError::UnexpectedEnd {
             offset: 0,
             needed,
             available: handles,
         });
     }
     if needed < handles {
-        return Count::Refused(TpmError::TrailingData {
+        return common(TpmError::TrailingData {
             offset: needed,
             actual: handles - needed,
         });
     }
-    let Count::Is(taken) = entries else {
-        return entries;
-    };
-    let total = capped_sum(HEADER_SIZE + needed + size_field(tag) + taken, parameters);
-    if LARGEST_SIZE < total {
-        return Count::Refused(TpmError::IntegerTooLarge {
-            offset: 0,
-            value: total as u64,
-        });
+    match entries {
+        Count::Refused(e) => common(e),
+        Count::Is(taken) => {
+            let total = capped_sum(HEADER_SIZE + needed + size_field(tag) + taken, parameters);
+            if LARGEST_SIZE < total {
+                return Total::Refused(WriteError::IntegerTooLarge {
+                    offset: 0,
+                    value: total as u64,
+                });
+            }
+            fits(total, room)
+        }
     }
-    fits(total, room)
 }

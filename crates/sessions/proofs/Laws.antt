@@ -16,8 +16,8 @@ use prog.Wp.{Heap}
 use ghost.Atoms.{Atoms}
 use contract.Monad.{Fun}
 use denote.Ref.{now}
-use Rattle.base.specs.declared.answer.Count.{Count}
-use Rattle.base.specs.Answer.{saidCount}
+use Rattle.base.specs.declared.answer.Total.{Total}
+use Rattle.base.specs.Answer.{saidTotal}
 use Rattle.base.specs.Said.{Said, refuses}
 use Rattle.base.proofs.Facts.{PromisedBy, from-two}
 use Rattle.frame.specs.Header.{sessions}
@@ -82,14 +82,14 @@ module _ (book : Rulebook) (handles lent parameters : List ℕ) (room : ℕ) whe
 
 -- Of a call with the records ss, whose answer is x, and whose room was old and is then new. `of e` is what the writer by value says to the
 -- records e, and Tagged that the tag is the one for sessions, of which a response says nothing.
-pub record Takes (of : Entries → Said (List ℕ)) (ss : List Session) (Tagged : Type 0) (old : List ℕ) (x : Count) (new : List ℕ) : Type 0 where
+pub record Takes (of : Entries → Said (List ℕ)) (ss : List Session) (Tagged : Type 0) (old : List ℕ) (x : Total) (new : List ℕ) : Type 0 where
   -- more than three are refused by their number, and the room is as it was
   pub many : Tagged → 3 < length ss → Refused old x new (6 ∷ 0 ∷ 3 ∷ length ss ∷ [])
   -- at most three get the answer and the bytes that they get by value
-  pub few : (e : Entries) → e .count ≤ 3 → entriesOf e ≡ ss → (saidCount x ≡ counted (of e)) × (new ≡ roomAfter old (of e))
+  pub few : (e : Entries) → e .count ≤ 3 → entriesOf e ≡ ss → (saidTotal x ≡ counted (of e)) × (new ≡ roomAfter old (of e))
 
-module _ (of : Entries → Said (List ℕ)) (ss : List Session) (Tagged : Type 0) (old : List ℕ) (x : Count) (new : List ℕ)
-    (answer : saidCount x ≡ counted (of (byValue ss))) (bytes : new ≡ roomAfter old (of (byValue ss))) where
+module _ (of : Entries → Said (List ℕ)) (ss : List Session) (Tagged : Type 0) (old : List ℕ) (x : Total) (new : List ℕ)
+    (answer : saidTotal x ≡ counted (of (byValue ss))) (bytes : new ≡ roomAfter old (of (byValue ss))) where
   takes : (Tagged → 3 < length ss → of (byValue ss) ≡ refuses (6 ∷ 0 ∷ 3 ∷ length ss ∷ []))
       → ((e : Entries) → e .count ≤ 3 → entriesOf e ≡ ss → of (byValue ss) ≡ of e) → Takes of ss Tagged old x new
   takes refused same = record {
@@ -113,7 +113,7 @@ module _ {M : Type 1} (𝓤 : URA M) (H : Heap 𝓤) (A : Atoms 𝓤) (mem : Mem
       let old : List ℕ = now (a .1 .1 .1 .1 .1 .1 .1 .0) in
       let new : List ℕ = v .1 .1 .1 .1 .1 .1 .1 .0 in
       let of : Entries → Said (List ℕ) = λ e. writeCommand (bookOf (a .0)) (a .1 .0 .0) (a .1 .1 .0 .0) (handed h e l p) (length old) in
-      from-two 𝓤 (saidCount x ≡ counted (of (byValue ss))) (new ≡ roomAfter old (of (byValue ss))) (λ answer bytes. (
+      from-two 𝓤 (saidTotal x ≡ counted (of (byValue ss))) (new ≡ roomAfter old (of (byValue ss))) (λ answer bytes. (
         takes of ss (a .1 .0 .0 ≡ sessions) old x new answer bytes
             (λ tag more. ap (λ (t : ℕ). writeCommand (bookOf (a .0)) t (a .1 .1 .0 .0) (handed h (byValue ss) l p) (length old)) tag ∙ command-many (bookOf (a .0)) h l p (length old) ss more (a .1 .1 .0 .0))
             (λ e few are. command-few (bookOf (a .0)) h l p (length old) e few ss are (a .1 .0 .0) (a .1 .1 .0 .0)),
@@ -137,7 +137,7 @@ module _ {M : Type 1} (𝓤 : URA M) (H : Heap 𝓤) (A : Atoms 𝓤) (mem : Mem
       let old : List ℕ = now (a .1 .1 .1 .1 .1 .1 .1 .0) in
       let new : List ℕ = v .1 .1 .1 .1 .1 .1 .1 .0 in
       let of : Entries → Said (List ℕ) = λ e. writeResponse (bookFor (a .0)) (asked (a .0)) (a .1 .1 .0 .0) (a .1 .0 .0) (handed h e l p) (length old) in
-      from-two 𝓤 (saidCount x ≡ counted (of (byValue ss))) (new ≡ roomAfter old (of (byValue ss))) (λ answer bytes. (
+      from-two 𝓤 (saidTotal x ≡ counted (of (byValue ss))) (new ≡ roomAfter old (of (byValue ss))) (λ answer bytes. (
         takes of ss (Unit {0}) old x new answer bytes
             (λ _ more. response-many (bookFor (a .0)) h l p (length old) ss more (asked (a .0)) (a .1 .1 .0 .0) (a .1 .0 .0))
             (λ e few are. response-few (bookFor (a .0)) h l p (length old) e few ss are (asked (a .0)) (a .1 .1 .0 .0) (a .1 .0 .0)),

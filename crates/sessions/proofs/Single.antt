@@ -3,7 +3,7 @@
 use mathlib.Core.Path.{_≡_, refl, sym, _∙_}
 use base.Logic.{id⊢}
 use Rattle.base.specs.Single.{SingleBy}
-use Rattle.base.proofs.Answers.{saidCount-injective}
+use Rattle.base.proofs.Answers.{saidTotal-injective}
 use Rattle.base.proofs.Facts.{both}
 use Rattle.sessions.proofs.command.write as of-command-write
 use Rattle.sessions.proofs.records.first_three as of-first-three
@@ -20,12 +20,12 @@ command-write : SingleBy of-command-write.ended (λ M 𝓤 H. of-command-write.c
 command-write = record {
   Post = _;
   says = λ 𝓤 H A mem run κs a g r s. both 𝓤 _ _;
-  once = λ κs a x y v w p q. (saidCount-injective x y (p .0 ∙ sym (q .0)), λ i. (tt, (tt, (tt, (tt, (tt, (tt, (tt, ((p .1 ∙ sym (q .1)) i, tt)))))))));
+  once = λ κs a x y v w p q. (saidTotal-injective x y (p .0 ∙ sym (q .0)), λ i. (tt, (tt, (tt, (tt, (tt, (tt, (tt, ((p .1 ∙ sym (q .1)) i, tt)))))))));
 }
 
 response-write : SingleBy of-response-write.ended (λ M 𝓤 H. of-response-write.clauses 𝓤 H) (λ κs x y. x ≡ y)
 response-write = record {
   Post = _;
   says = λ 𝓤 H A mem run κs a g r s. both 𝓤 _ _;
-  once = λ κs a x y v w p q. (saidCount-injective x y (p .0 ∙ sym (q .0)), λ i. (tt, (tt, (tt, (tt, (tt, (tt, (tt, ((p .1 ∙ sym (q .1)) i, tt)))))))));
+  once = λ κs a x y v w p q. (saidTotal-injective x y (p .0 ∙ sym (q .0)), λ i. (tt, (tt, (tt, (tt, (tt, (tt, (tt, ((p .1 ∙ sym (q .1)) i, tt)))))))));
 }

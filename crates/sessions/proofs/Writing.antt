@@ -1,5 +1,5 @@
 -- One walk by hand for the writers over a lent slice of records,
---     fn write(rules: B, x: X, cc: TpmCc, handles: &[u8], sessions: &[Session], lent: &[u8], parameters: &[u8], room: &mut [u8]) -> Count {
+--     fn write(rules: B, x: X, cc: TpmCc, handles: &[u8], sessions: &[Session], lent: &[u8], parameters: &[u8], room: &mut [u8]) -> Total {
 --         core(rules, x, cc, handles, first_three(sessions), lent, parameters, room)
 --     }
 -- where B is the rules, X the tag or the response code and core the writer by value. The room goes to core for good, and its last bytes
@@ -42,9 +42,9 @@ use denote.Triple.Spec.{Meets, tripleOf}
 use denote.Triple.Clauses.{Clauses, Ended, Lasts, ensured, lasts, closing}
 use denote.Triple.Walked.{says, Stays, stay-dropped, gave-slice, onExit, walkOf, goes-dropped, goes-gave-slice, Walks, ends-at, walked, walk-meets}
 use denote.Exit.{yes}
-use Rattle.base.specs.declared.answer.Count.{Count}
+use Rattle.base.specs.declared.answer.Total.{Total}
 use Rattle.base.specs.declared.code.TpmCc.{TpmCc}
-use Rattle.base.specs.Answer.{saidCount}
+use Rattle.base.specs.Answer.{saidTotal}
 use Rattle.base.specs.Said.{Said}
 use Rattle.frame.specs.Walk.{byValue}
 use Rattle.frame.specs.declared.session.Entries.{Entries}
@@ -52,8 +52,8 @@ use Rattle.frame.specs.declared.session.Session.{Session}
 use Rattle.marshal.specs.Handed.{Handed, handed}
 use Rattle.marshal.specs.Write.{counted, roomAfter}
 use Rattle.base.proofs.ByValue.{ByValue}
-use Rattle.base.proofs.answer.Count as N
-use Rattle.base.proofs.answer.Count.Laws as N′
+use Rattle.base.proofs.answer.Total as N
+use Rattle.base.proofs.answer.Total.Laws as N′
 use Rattle.base.proofs.code.TpmCc as Cc
 use Rattle.base.proofs.code.TpmCc.Laws as Cc′
 use Rattle.frame.proofs.session.Entries as E
@@ -68,8 +68,8 @@ abbrev Lent : Type 0
 Lent = RefT (List ℕ)
 
 -- what is promised of an answer and of the room's last bytes, for the frame that was asked for
-abbrev Answer : Said (List ℕ) → Count → Type 0
-Answer said r = saidCount r ≡ counted said
+abbrev Answer : Said (List ℕ) → Total → Type 0
+Answer said r = saidTotal r ≡ counted said
 
 abbrev Bytes : Said (List ℕ) → List ℕ → List ℕ → Type 0
 Bytes said old new = new ≡ roomAfter old said
@@ -263,7 +263,7 @@ module _ (B X : ByValue) (core : Name) (ω : B .row .Denot → X .row .Denot →
     abbrev wanted : Said (List ℕ)
     wanted = Written b x cc h (byValue (now s)) l p r
 
-    exits : (n : Count) (u : Val) (new : List ℕ) → length new ≡ length (now r) → Answer wanted n → Bytes wanted (now r) new
+    exits : (n : Total) (u : Val) (new : List ℕ) → length new ≡ length (now r) → Answer wanted n → Bytes wanted (now r) new
         → ent 𝓤 (⋆ 𝓤 H A (‵ (N.the-row .own n (u ∷ [])) ∷ (‵ (flft κ₀ q₀) ⊛ ‵ (flft κ₁ q₁) ⊛ ‵ (flft κ₂ q₂) ⊛ ‵ (flft κ₃ q₃) ⊛ ‵ (flft κ₄ q₄) ⊛ ‵ ftrue) ∷ ‵ (finally u8 (name r) new) ∷ [])) (Post u)
     exits n u new long answer bytes =
         qed W (‵ (N.the-row .own n (u ∷ [])) ∷ (‵ (flft κ₀ q₀) ⊛ ‵ (flft κ₁ q₁) ⊛ ‵ (flft κ₂ q₂) ⊛ ‵ (flft κ₃ q₃) ⊛ ‵ (flft κ₄ q₄) ⊛ ‵ ftrue) ∷ ‵ (finally u8 (name r) new) ∷ []) ∵
@@ -317,7 +317,7 @@ module _ (B X : ByValue) (core : Name) (ω : B .row .Denot → X .row .Denot →
           calls-at ! fm (Core 𝓤 H A) known (to-core e u)
           (and-then ! (load ! (from ! (stop !)) (look ! 22 refl)) (and-then ! (load ! (from ! (stop !)) (look ! 20 refl)) (and-then ! (load ! (from ! (stop !)) (look ! 18 refl)) (and-then ! (load ! (from ! (stop !)) (look ! 16 refl)) (and-then ! (load ! (from ! (stop !)) (look ! 6 refl))
           (and-then ! (load ! (from ! (stop !)) (look ! 12 refl)) (and-then ! (load ! (from ! (stop !)) (look ! 10 refl)) (and-then ! (load ! (from ! (stop !)) (look ! 2 refl)) (no-more !))))))))) (λ z.
-          use1 W (later (some (λ (n : Count). ((‵ (flft κ₀ q₀) ⊛ ‵ (flft κ₂ q₂) ⊛ ‵ (flft κ₃ q₃) ⊛ ‵ (flft κ₄ q₄) ⊛ ‵ ftrue) ⊛ ‵ (N.the-row .own n (z ∷ [])))
+          use1 W (later (some (λ (n : Total). ((‵ (flft κ₀ q₀) ⊛ ‵ (flft κ₂ q₂) ⊛ ‵ (flft κ₃ q₃) ⊛ ‵ (flft κ₄ q₄) ⊛ ‵ ftrue) ⊛ ‵ (N.the-row .own n (z ∷ [])))
           ⊛ some (λ (ws : Lasted e u). ‵ (Said-lasts e u ws) ⊛ raw (fact 𝓤 (Answer (given e u) n)) ⊛ raw (fact 𝓤 (Bytes (given e u) (now r) (ws .1 .1 .1 .1 .1 .1 .1 .0))))))) (id⊢ 𝓤 _) $ await ! tt $ pick ! (λ n.
           split ! $ move ! (1 ∷ []) $ pick ! (λ ws. split ! $ move ! (1 ∷ []) $ split ! $ heard ! (Answer (given e u) n) (λ answer. heard ! (Bytes (given e u) (now r) (ws .1 .1 .1 .1 .1 .1 .1 .0)) (λ bytes.
           -- [the last values; the tokens, what the answer owns; κ₁, true; _11; …]

@@ -1,13 +1,13 @@
 // The writer of commands, over session records in a slice.
 ghost use mathlib.Core.Path.{_≡_};
 ghost use lib.ListN.{length};
-ghost use Rattle.base.specs.Answer.{saidCount};
+ghost use Rattle.base.specs.Answer.{saidTotal};
 ghost use Rattle.frame.specs.Rules.{bookOf};
 ghost use Rattle.frame.specs.Walk.{byValue};
 ghost use Rattle.marshal.specs.Handed.{handed};
 ghost use Rattle.marshal.specs.Write.{counted, roomAfter, writeCommand};
 use crate::records::first_three;
-use base::answer::Count;
+use base::answer::Total;
 use base::code::TpmCc;
 use base::code::TpmSt;
 use frame::rules::Rules;
@@ -24,8 +24,8 @@ pub fn write(
     lent: &[u8],
     parameters: &[u8],
     room: &mut [u8],
-) -> Count
-    ensures answer { λ r. ⌜ saidCount r ≡ counted (writeCommand (bookOf rules) (tag .0) (cc .0) (handed (now (handles .entry)) (byValue (now (sessions .entry))) (now (lent .entry)) (now (parameters .entry))) (length (now (room .entry)))) ⌝ }
+) -> Total
+    ensures answer { λ r. ⌜ saidTotal r ≡ counted (writeCommand (bookOf rules) (tag .0) (cc .0) (handed (now (handles .entry)) (byValue (now (sessions .entry))) (now (lent .entry)) (now (parameters .entry))) (length (now (room .entry)))) ⌝ }
     ensures bytes { λ r. ⌜ now (room .exit) ≡ roomAfter (now (room .entry)) (writeCommand (bookOf rules) (tag .0) (cc .0) (handed (now (handles .entry)) (byValue (now (sessions .entry))) (now (lent .entry)) (now (parameters .entry))) (length (now (room .entry)))) ⌝ }
 {
     marshal::command::write(

@@ -30,8 +30,8 @@ enum-known-by c = search needs
 write-requires : tie.Need-write-requires
 write-requires c κs = search needs
 
-count-requires : tie.Need-count-requires
-count-requires c κs = search needs
+total-requires : tie.Need-total-requires
+total-requires c κs = search needs
 
 returns : tie.Need-returns
 returns c =
@@ -47,7 +47,7 @@ returns-2 c =
     let room = now (c .before .before .before .before .before .before .before .before .before .before .before .before .before .before .args .room) in
     let by = learnt saidRules (c .before .before .before .before .before .before .before .by .given .1) (c .before .before .before .before .before .before .before .before .before .rules-named .ensures) in
     let said = c .before .before .before .before .write .ensures in
-    (as-named _ (rulesNumbered _) _ by (said .0) (c .count .ensures), said .1 ∙ ap (roomAfter room) (goes-on (rulesNumbered _) _ by))
+    (as-named _ (rulesNumbered _) _ by (said .0) (c .total .ensures), said .1 ∙ ap (roomAfter room) (goes-on (rulesNumbered _) _ by))
 
 pub skein-command-write-spec : {M : Type 1} → statement M
 skein-command-write-spec =
@@ -59,7 +59,7 @@ skein-command-write-spec =
     two-requires
     enum-known-by
     write-requires
-    count-requires
+    total-requires
     returns
     same-length
     returns-2)

@@ -43,17 +43,11 @@ three-requires-2 c κs = search needs
 enum-known-e-7 : tie.Need-enum-known-e-7
 enum-known-e-7 c = search needs
 
-two-requires-5 : tie.Need-two-requires-5
-two-requires-5 c κs = search needs
-
-enum-known-e-8 : tie.Need-enum-known-e-8
-enum-known-e-8 c = search needs
-
 three-requires-3 : tie.Need-three-requires-3
 three-requires-3 c κs = search needs
 
-enum-known-e-9 : tie.Need-enum-known-e-9
-enum-known-e-9 c = search needs
+enum-known-e-8 : tie.Need-enum-known-e-8
+enum-known-e-8 c = search needs
 
 three-requires-4 : tie.Need-three-requires-4
 three-requires-4 c κs = search needs
@@ -77,13 +71,10 @@ returns-6 : tie.Need-returns-6
 returns-6 c = rw (c .before .before .before .e6 .given .1) (c .three2 .ensures)
 
 returns-7 : tie.Need-returns-7
-returns-7 c = rw (c .before .before .before .e7 .given .1) (c .two5 .ensures)
+returns-7 c = rw (c .before .before .before .e7 .given .1) (c .three3 .ensures)
 
 returns-8 : tie.Need-returns-8
-returns-8 c = rw (c .before .before .before .e8 .given .1) (c .three3 .ensures)
-
-returns-9 : tie.Need-returns-9
-returns-9 c = rw (c .before .before .before .e9 .given .1) (c .three4 .ensures)
+returns-8 c = rw (c .before .before .before .e8 .given .1) (c .three4 .ensures)
 
 pub refuse-spec : {M : Type 1} → statement M
 refuse-spec =
@@ -102,10 +93,8 @@ refuse-spec =
     enum-known-e-6
     three-requires-2
     enum-known-e-7
-    two-requires-5
-    enum-known-e-8
     three-requires-3
-    enum-known-e-9
+    enum-known-e-8
     three-requires-4
     returns
     returns-2
@@ -114,5 +103,4 @@ refuse-spec =
     returns-5
     returns-6
     returns-7
-    returns-8
-    returns-9)
+    returns-8)

@@ -30,8 +30,8 @@ enum-known-by c = search needs
 write-requires : tie.Need-write-requires
 write-requires c κs = search needs
 
-count-requires : tie.Need-count-requires
-count-requires c κs = search needs
+total-requires : tie.Need-total-requires
+total-requires c κs = search needs
 
 returns : tie.Need-returns
 returns c =
@@ -47,7 +47,7 @@ returns-2 c =
     let room = now (c .before .before .before .before .before .before .before .before .before .before .before .before .before .before .args .room) in
     let by = learnt saidMode (c .before .before .before .before .before .before .before .by .given .1) (c .before .before .before .before .before .before .before .before .before .mode-named .ensures) in
     let said = c .before .before .before .before .write .ensures in
-    (as-named _ (modeNumbered _) _ by (said .0) (c .count .ensures), said .1 ∙ ap (roomAfter room) (goes-on (modeNumbered _) _ by))
+    (as-named _ (modeNumbered _) _ by (said .0) (c .total .ensures), said .1 ∙ ap (roomAfter room) (goes-on (modeNumbered _) _ by))
 
 pub skein-response-write-spec : {M : Type 1} → statement M
 skein-response-write-spec =
@@ -59,7 +59,7 @@ skein-response-write-spec =
     two-requires
     enum-known-by
     write-requires
-    count-requires
+    total-requires
     returns
     same-length
     returns-2)

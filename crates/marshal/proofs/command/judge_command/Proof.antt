@@ -22,17 +22,23 @@ tag-for-requires c κs = search needs
 too-many-requires : tie.Need-too-many-requires
 too-many-requires c κs = search needs
 
+common-requires : tie.Need-common-requires
+common-requires c κs = search needs
+
 returns : tie.Need-returns
 returns c =
-    let a = c .before .before .before .before .before .before .before .before .before .args in
+    let a = c .before .before .before .before .before .before .before .before .before .before .args in
     let h = handed (now (a .handles)) (a .sessions) (now (a .lent)) (now (a .parameters)) in
-    ap refuses (c .too-many .ensures) ∙ ap counted (many-sessions (bookOf (a .rules)) (a .tag .0) (a .cc .0) h (a .room) (c .before .before .before .if1 .taken ∙ c .before .before .before .before .before .tag-for .ensures) (c .before .if2 .taken))
+    c .common .ensures ∙ ap refuses (c .before .too-many .ensures) ∙ ap counted (many-sessions (bookOf (a .rules)) (a .tag .0) (a .cc .0) h (a .room) (c .before .before .before .before .if1 .taken ∙ c .before .before .before .before .before .before .tag-for .ensures) (c .before .before .if2 .taken))
 
 find-requires : tie.Need-find-requires
 find-requires c κs = search needs
 
 enum-known-e : tie.Need-enum-known-e
 enum-known-e c = search needs
+
+common-requires-2 : tie.Need-common-requires-2
+common-requires-2 c κs = search needs
 
 enum-known-row : tie.Need-enum-known-row
 enum-known-row c = search needs
@@ -62,9 +68,9 @@ judge-requires c κs =
 
 returns-2 : tie.Need-returns-2
 returns-2 c =
-    let a = c .before .before .before .before .before .before .before .before .before .before .before .before .args in
+    let a = c .before .before .before .before .before .before .before .before .before .before .before .before .before .args in
     let h = handed (now (a .handles)) (a .sessions) (now (a .lent)) (now (a .parameters)) in
-    ap counted (no-row (bookOf (a .rules)) (a .tag .0) (a .cc .0) h (a .room) (c .before .before .before .before .before .before .if1 .taken ∙ c .before .before .before .before .before .before .before .before .tag-for .ensures) (c .before .before .before .before .if2 .left) (learnt saidFound (c .before .e .given .1) (c .before .before .before .find .ensures)))
+    c .common2 .ensures ∙ ap counted (no-row (bookOf (a .rules)) (a .tag .0) (a .cc .0) h (a .room) (c .before .before .before .before .before .before .before .if1 .taken ∙ c .before .before .before .before .before .before .before .before .before .tag-for .ensures) (c .before .before .before .before .before .if2 .left) (learnt saidFound (c .before .before .e .given .1) (c .before .before .before .before .find .ensures)))
 
 returns-3 : tie.Need-returns-3
 returns-3 c =
@@ -76,11 +82,14 @@ returns-3 c =
 refused-requires : tie.Need-refused-requires
 refused-requires c κs = search needs
 
+common-requires-3 : tie.Need-common-requires-3
+common-requires-3 c κs = search needs
+
 returns-4 : tie.Need-returns-4
 returns-4 c =
-    let a = c .before .before .before .before .before .before .before .args in
+    let a = c .before .before .before .before .before .before .before .before .args in
     let h = handed (now (a .handles)) (a .sessions) (now (a .lent)) (now (a .parameters)) in
-    ap refuses (c .refused .ensures) ∙ ap counted (wrong-tag (bookOf (a .rules)) (a .tag .0) (a .cc .0) h (a .room) (λ e. c .before .if1 .left (e ∙ sym (c .before .before .before .tag-for .ensures))))
+    c .common3 .ensures ∙ ap refuses (c .before .refused .ensures) ∙ ap counted (wrong-tag (bookOf (a .rules)) (a .tag .0) (a .cc .0) h (a .room) (λ e. c .before .before .if1 .left (e ∙ sym (c .before .before .before .before .tag-for .ensures))))
 
 pub judge-command-spec : {M : Type 1} → statement M
 judge-command-spec =
@@ -88,9 +97,11 @@ judge-command-spec =
     (tie.spec
     tag-for-requires
     too-many-requires
+    common-requires
     returns
     find-requires
     enum-known-e
+    common-requires-2
     enum-known-row
     longest-requires
     look-requires
@@ -100,4 +111,5 @@ judge-command-spec =
     returns-2
     returns-3
     refused-requires
+    common-requires-3
     returns-4)

@@ -19,6 +19,9 @@ enum-told c = search needs
 refused-requires : tie.Need-refused-requires
 refused-requires c κs = search needs
 
+common-requires : tie.Need-common-requires
+common-requires c κs = search needs
+
 enum-told-2 : tie.Need-enum-told-2
 enum-told-2 c = search needs
 
@@ -34,14 +37,17 @@ returns c =
 refused-requires-2 : tie.Need-refused-requires-2
 refused-requires-2 c κs = search needs
 
+common-requires-2 : tie.Need-common-requires-2
+common-requires-2 c κs = search needs
+
 returns-2 : tie.Need-returns-2
-returns-2 c = ap refuses (c .refused .ensures) ∙ fails (given (readCode (c .before .before .before .before .args .rc .0))) _ _ (ap given (sym (learnt saidCode (c .before .enum-told .given .1) (c .before .before .before .read .ensures))))
+returns-2 c = c .common .ensures ∙ ap refuses (c .before .refused .ensures) ∙ fails (given (readCode (c .before .before .before .before .before .args .rc .0))) _ _ (ap given (sym (learnt saidCode (c .before .before .enum-told .given .1) (c .before .before .before .before .read .ensures))))
 
 returns-3 : tie.Need-returns-3
 returns-3 c =
-    let a = c .before .before .before .before .before .args in
-    ap refuses (c .refused2 .ensures) ∙ error-sessions (a .rc .0) (a .count) (a .room) (c .before .if1 .left)
-    ∙ passes (given (readCode (a .rc .0))) _ _ (ap given (sym (learnt saidCode (c .before .before .enum-told2 .given .1) (c .before .before .before .before .read .ensures))))
+    let a = c .before .before .before .before .before .before .args in
+    c .common2 .ensures ∙ ap refuses (c .before .refused2 .ensures) ∙ error-sessions (a .rc .0) (a .count) (a .room) (c .before .before .if1 .left)
+    ∙ passes (given (readCode (a .rc .0))) _ _ (ap given (sym (learnt saidCode (c .before .before .before .enum-told2 .given .1) (c .before .before .before .before .before .read .ensures))))
 
 pub judge-error-spec : {M : Type 1} → statement M
 judge-error-spec =
@@ -50,9 +56,11 @@ judge-error-spec =
     read-requires
     enum-told
     refused-requires
+    common-requires
     enum-told-2
     fits-requires
     returns
     refused-requires-2
+    common-requires-2
     returns-2
     returns-3)

@@ -22,17 +22,23 @@ use Rattle.marshal.proofs.response.judge_response.Tie as tie
 too-many-requires : tie.Need-too-many-requires
 too-many-requires c κs = search needs
 
+common-requires : tie.Need-common-requires
+common-requires c κs = search needs
+
 returns : tie.Need-returns
 returns c =
-    let a = c .before .before .before .before .before .before .args in
+    let a = c .before .before .before .before .before .before .before .args in
     let h = handed (now (a .handles)) (a .sessions) (now (a .lent)) (now (a .parameters)) in
-    ap refuses (c .too-many .ensures) ∙ ap counted (many-entries (bookFor (a .rules)) (asked (a .rules)) (a .cc .0) (a .rc .0) h (a .room) (c .before .if1 .taken))
+    c .common .ensures ∙ ap refuses (c .before .too-many .ensures) ∙ ap counted (many-entries (bookFor (a .rules)) (asked (a .rules)) (a .cc .0) (a .rc .0) h (a .room) (c .before .before .if1 .taken))
 
 find-requires : tie.Need-find-requires
 find-requires c κs = search needs
 
 enum-known-e : tie.Need-enum-known-e
 enum-known-e c = search needs
+
+common-requires-2 : tie.Need-common-requires-2
+common-requires-2 c κs = search needs
 
 enum-known-row : tie.Need-enum-known-row
 enum-known-row c = search needs
@@ -50,9 +56,6 @@ returns-2 c =
     c .judge-bad-tag .ensures
     ∙ bad-tag-judged (bookFor (a .rules)) (asked (a .rules)) (a .cc .0) (a .rc .0) h (a .room) (c .before .before .before .before .before .before .before .if1 .left) (learnt saidFound (c .before .before .before .before .row .given .1) (c .before .before .before .before .before .before .find .ensures)) (sym (c .before .before .asks-bad-tag .ensures) ∙ c .before .if2 .taken)
 
-tag-for-requires : tie.Need-tag-for-requires
-tag-for-requires c κs = search needs
-
 rules-for-requires : tie.Need-rules-for-requires
 rules-for-requires c κs = search needs
 
@@ -61,6 +64,9 @@ longest-requires c κs = search needs
 
 look-requires : tie.Need-look-requires
 look-requires c κs = search needs
+
+tag-for-requires : tie.Need-tag-for-requires
+tag-for-requires c κs = search needs
 
 entries-length-requires : tie.Need-entries-length-requires
 entries-length-requires c κs = search needs
@@ -96,9 +102,9 @@ judge-error-requires c κs = search needs
 
 returns-4 : tie.Need-returns-4
 returns-4 c =
-    let a = c .before .before .before .before .before .before .before .before .before .args in
+    let a = c .before .before .before .before .before .before .before .before .before .before .args in
     let h = handed (now (a .handles)) (a .sessions) (now (a .lent)) (now (a .parameters)) in
-    ap counted (no-command (bookFor (a .rules)) (asked (a .rules)) (a .cc .0) (a .rc .0) h (a .room) (c .before .before .before .before .if1 .left) (learnt saidFound (c .before .e .given .1) (c .before .before .before .find .ensures)))
+    c .common2 .ensures ∙ ap counted (no-command (bookFor (a .rules)) (asked (a .rules)) (a .cc .0) (a .rc .0) h (a .room) (c .before .before .before .before .before .if1 .left) (learnt saidFound (c .before .before .e .given .1) (c .before .before .before .before .find .ensures)))
 
 returns-5 : tie.Need-returns-5
 returns-5 c =
@@ -112,9 +118,11 @@ judge-response-spec =
     tie.close
     (tie.spec
     too-many-requires
+    common-requires
     returns
     find-requires
     enum-known-e
+    common-requires-2
     enum-known-row
     asks-bad-tag-requires
     judge-bad-tag-requires

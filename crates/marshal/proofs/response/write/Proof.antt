@@ -5,7 +5,7 @@ use mathlib.Core.Path.{sym, _∙_, ap}
 use Prim.Native.Nat.{ℕ}
 use lib.ListN.{length}
 use denote.Ref.{now}
-use Rattle.base.specs.Answer.{saidCount}
+use Rattle.base.specs.Answer.{saidTotal}
 use Rattle.base.proofs.Answers.{learnt}
 use Rattle.frame.proofs.Divisions.{longest-below}
 use Rattle.marshal.specs.Handed.{handed}
@@ -32,13 +32,13 @@ returns c =
     let a = c .before .before .before .before .before .before .before .args in
     let h = handed (now (a .handles)) (a .sessions) (now (a .lent)) (now (a .parameters)) in
     let said = c .before .before .judge-response .ensures in
-    (said, room-refused (now (a .room)) (writeResponse (bookFor (a .rules)) (asked (a .rules)) (a .cc .0) (a .rc .0) h (length (now (a .room)))) (learnt saidCount (c .enum-told .given .1) said))
+    (said, room-refused (now (a .room)) (writeResponse (bookFor (a .rules)) (asked (a .rules)) (a .cc .0) (a .rc .0) h (length (now (a .room)))) (learnt saidTotal (c .enum-told .given .1) said))
 
 lay-success-requires : tie.Need-lay-success-requires
 lay-success-requires c κs =
     let a = c .before .before .before .before .before .before .before .before .before .before .before .args in
     let h = handed (now (a .handles)) (a .sessions) (now (a .lent)) (now (a .parameters)) in
-    success-ready (bookFor (a .rules)) (asked (a .rules)) (a .cc .0) (a .rc .0) h (length (now (a .room))) (longest-below (readingOf (a .rules .mode))) (c .before .if1 .taken) (learnt saidCount (c .before .before .before .before .judged .given .1) (c .before .before .before .before .before .before .judge-response .ensures)) .0
+    success-ready (bookFor (a .rules)) (asked (a .rules)) (a .cc .0) (a .rc .0) h (length (now (a .room))) (longest-below (readingOf (a .rules .mode))) (c .before .if1 .taken) (learnt saidTotal (c .before .before .before .before .judged .given .1) (c .before .before .before .before .before .before .judge-response .ensures)) .0
 
 same-length : tie.Need-same-length
 same-length c = search needs
@@ -47,7 +47,7 @@ returns-2 : tie.Need-returns-2
 returns-2 c =
     let a = c .before .before .before .before .before .before .before .before .before .before .before .before .before .before .args in
     let h = handed (now (a .handles)) (a .sessions) (now (a .lent)) (now (a .parameters)) in
-    let said = learnt saidCount (c .before .before .before .before .before .before .before .judged .given .1) (c .before .before .before .before .before .before .before .before .before .judge-response .ensures) in
+    let said = learnt saidTotal (c .before .before .before .before .before .before .before .judged .given .1) (c .before .before .before .before .before .before .before .before .before .judge-response .ensures) in
     (said, room-written (now (a .room)) (success-ready (bookFor (a .rules)) (asked (a .rules)) (a .cc .0) (a .rc .0) h (length (now (a .room))) (longest-below (readingOf (a .rules .mode))) (c .before .before .before .before .if1 .taken) said .1) (c .before .before .lay-success .ensures))
 
 error-tag-requires : tie.Need-error-tag-requires
@@ -60,7 +60,7 @@ put-header-requires : tie.Need-put-header-requires
 put-header-requires c κs =
     let a = c .before .before .before .before .before .before .before .before .before .before .before .before .args in
     let h = handed (now (a .handles)) (a .sessions) (now (a .lent)) (now (a .parameters)) in
-    error-ready (bookFor (a .rules)) (asked (a .rules)) (a .cc .0) (a .rc .0) h (length (now (a .room))) (c .before .before .if1 .left) (learnt saidCount (c .before .before .before .before .before .judged .given .1) (c .before .before .before .before .before .before .before .judge-response .ensures)) .0
+    error-ready (bookFor (a .rules)) (asked (a .rules)) (a .cc .0) (a .rc .0) h (length (now (a .room))) (c .before .before .if1 .left) (learnt saidTotal (c .before .before .before .before .before .judged .given .1) (c .before .before .before .before .before .before .before .judge-response .ensures)) .0
 
 same-length-2 : tie.Need-same-length-2
 same-length-2 c = search needs
@@ -69,7 +69,7 @@ returns-3 : tie.Need-returns-3
 returns-3 c =
     let a = c .before .before .before .before .before .before .before .before .before .before .before .before .before .before .before .args in
     let h = handed (now (a .handles)) (a .sessions) (now (a .lent)) (now (a .parameters)) in
-    let said = learnt saidCount (c .before .before .before .before .before .before .before .before .judged .given .1) (c .before .before .before .before .before .before .before .before .before .before .judge-response .ensures) in
+    let said = learnt saidTotal (c .before .before .before .before .before .before .before .before .judged .given .1) (c .before .before .before .before .before .before .before .before .before .before .judge-response .ensures) in
     let put =
     c .before .before .put-header .ensures .later-is
     ∙ ap (λ (tag : ℕ). laid 0 (headerOf tag 10 (a .rc .0)) (now (a .room))) (c .before .before .before .before .error-tag .ensures)
