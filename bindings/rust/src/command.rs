@@ -2,11 +2,11 @@
 
 use crate::calls;
 use crate::cc::TpmCc;
-use crate::refusal::Refusal;
+use crate::refusal::{Refusal, WriteRefusal};
 use crate::rules::Rules;
 use crate::session::Sessions;
 use crate::st::TpmSt;
-use crate::view::{Areas, ask, ask_parts, ask_split, ask_tag, part};
+use crate::view::{Areas, ask, ask_parts, ask_split, ask_tag, ask_writer, part};
 
 /// A command frame, borrowed: bytes that [`cast`](Self::cast) let through.
 ///
@@ -273,7 +273,7 @@ impl AsRef<[u8]> for TpmCommand<'_> {
 /// let mut room = [0; 64];
 /// let len = startup.marshal(Rules::STANDARD, &mut room)?;
 /// assert_eq!(TpmCommand::cast(Rules::STANDARD, &room[..len])?.parts()?, startup);
-/// # Ok::<(), skeinloft::Refusal>(())
+/// # Ok::<(), skeinloft::WriteRefusal>(())
 /// ```
 #[derive(Clone, Copy, Debug, PartialEq, Eq)]
 pub struct CommandParts<'a> {
@@ -296,8 +296,8 @@ impl CommandParts<'_> {
     ///
     /// The first of: a tag that is no command's or does not go with the sessions, more than three sessions, a command
     /// code that is none, handles that are not the command's in number, by the standard rules a nonce or an HMAC of more than
-    /// [`MAX_DIGEST_SIZE`](crate::MAX_DIGEST_SIZE) bytes, more bytes than a frame's size can say, room that is too short. The
-    /// room is then as it was.
+    /// [`MAX_DIGEST_SIZE`](crate::MAX_DIGEST_SIZE) bytes, more bytes than a frame's size can say, which is
+    /// [`WriteRefusal::IntegerTooLarge`], room that is too short. The room is then as it was.
     ///
     /// ```
     /// use skeinloft::{Refusal, Rules, TpmCommand};
@@ -309,8 +309,8 @@ impl CommandParts<'_> {
     /// assert_eq!(room, bytes);
     ///
     /// let refusal = parts.marshal(Rules::STANDARD, &mut room[1..]).unwrap_err();
-    /// assert_eq!(refusal, Refusal::BufferOverflow { offset: 0, needed: 12, available: 11 });
-    /// # Ok::<(), Refusal>(())
+    /// assert_eq!(refusal, Refusal::BufferOverflow { offset: 0, needed: 12, available: 11 }.into());
+    /// # Ok::<(), skeinloft::WriteRefusal>(())
     /// ```
     ///
     /// ```
@@ -328,13 +328,12 @@ impl CommandParts<'_> {
     /// let mut room = [0; 90];
     /// assert_eq!(random.marshal(Rules::RUST, &mut room)?, 90);
     /// let refusal = random.marshal(Rules::STANDARD, &mut room).unwrap_err();
-    /// assert_eq!(refusal, Refusal::TooManyBytes { offset: 0, limit: 64, actual: 65 });
-    /// # Ok::<(), Refusal>(())
+    /// assert_eq!(refusal, Refusal::TooManyBytes { offset: 0, limit: 64, actual: 65 }.into());
+    /// # Ok::<(), skeinloft::WriteRefusal>(())
     /// ```
     #[doc(alias = "tpm_marshal_command")]
-    pub fn marshal(&self, rules: Rules, room: &mut [u8]) -> Result<usize, Refusal> {
+    pub fn marshal(&self, rules: Rules, room: &mut [u8]) -> Result<usize, WriteRefusal> {
         let handed = self.sessions.handed(self.handles, self.parameters);
-        let [len, ..] = ask(|out| calls::command_write(rules.number(), self.tag.0, self.cc.0, handed, room, out))?;
-        Ok(len as usize)
+        ask_writer(|out| calls::command_write(rules.number(), self.tag.0, self.cc.0, handed, room, out))
     }
 }

@@ -2,7 +2,8 @@
 //!
 //! Every answer comes from Skeinloft, which is written in Rattle: each of its functions is proved to give the answer that
 //! its definition says, for every input, and to stay inside the bytes that it is given. This crate lends it slices and gives
-//! back slices. A bad frame gets one [`Refusal`], with a number, a name and fields; nothing is changed by a refused call.
+//! back slices. A bad frame gets one [`Refusal`], with a number, a name and fields; nothing is changed by a refused call. What
+//! writes frames answers with [`WriteRefusal`], which has one more.
 //!
 //! The crate has no dependency, allocates nothing and needs no `std`; `unsafe` is in one file, which declares the calls.
 //! The names are those of tpm2-protocol where it has them. An installed crate is linked with the library that was installed
@@ -30,7 +31,7 @@
 //! # Writing
 //!
 //! ```
-//! use skeinloft::{CommandParts, Refusal, Rules, Sessions, TpmCc, TpmSt, TpmsAuth};
+//! use skeinloft::{CommandParts, Rules, Sessions, TpmCc, TpmSt, TpmsAuth, WriteRefusal};
 //!
 //! let password = TpmsAuth { session_handle: 0x4000_0009, hmac: b"secret", ..TpmsAuth::default() };
 //! let mut scratch = [0; 64];
@@ -45,7 +46,7 @@
 //! let len = unseal.marshal(Rules::STANDARD, &mut room)?;
 //! assert_eq!(room[..6], [0x80, 0x02, 0, 0, 0, 33]);
 //! assert_eq!(len, 33);
-//! # Ok::<(), Refusal>(())
+//! # Ok::<(), WriteRefusal>(())
 //! ```
 //!
 //! # Keeping nonces
@@ -90,7 +91,7 @@ pub use cc::TpmCc;
 pub use command::{CommandParts, TpmCommand};
 pub use keeper::Keeper;
 pub use rc::{TpmRc, TpmRcIndex};
-pub use refusal::Refusal;
+pub use refusal::{Refusal, WriteRefusal};
 pub use response::{ResponseParts, TpmResponse};
 pub use rh::TpmRh;
 pub use rules::{MAX_DIGEST_SIZE, Reading, ResponseMode, Rules};

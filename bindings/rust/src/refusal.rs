@@ -3,7 +3,7 @@
 use crate::calls::{OFFSET, Out};
 use core::fmt;
 
-/// One list of all refusals: a number, the name, its fields if it has some, and its words.
+/// One list of all refusals but that of the writers alone: a number, the name, its fields if it has some, and its words.
 macro_rules! refusals {
     ($($(#[$doc:meta])* $number:literal $name:ident $({ $($(#[$told:meta])* $field:ident: $type:ty,)* })? $words:literal)*) => {
         /// Why a call was refused: bad input has one refusal, by number, name and fields.
@@ -19,6 +19,17 @@ macro_rules! refusals {
         /// assert_eq!(refusal, Refusal::UnexpectedEnd { offset: 0, needed: 10, available: 2 });
         /// assert_eq!((refusal.number(), refusal.name()), (1, "UnexpectedEnd"));
         /// assert_eq!(refusal.to_string(), "the bytes end too early at byte 0: needed 10, available 2");
+        /// ```
+        ///
+        /// There is no `IntegerTooLarge`, 7: it is proved that no call but a writer of frames gives it, whatever the input. The
+        /// writers answer with [`WriteRefusal`], which has it. A reader's handler for it does not compile:
+        ///
+        /// ```compile_fail,E0599
+        /// use skeinloft::{Refusal, Rules, TpmCommand};
+        ///
+        /// if let Err(Refusal::IntegerTooLarge { value, .. }) = TpmCommand::cast(Rules::STANDARD, &[0x80, 0x01]) {
+        ///     println!("{value} is too large");
+        /// }
         /// ```
         #[derive(Clone, Copy, Debug, PartialEq, Eq, Hash)]
         #[non_exhaustive]
@@ -177,14 +188,6 @@ refusals! {
         actual: usize,
     } "too many items at byte {offset}: {actual}, at most {limit}"
 
-    /// A number too large for its field.
-    7 IntegerTooLarge {
-        /// The place of the field.
-        offset: usize,
-        /// The number.
-        value: u64,
-    } "a number too large at byte {offset}: {value}"
-
     /// More bytes than the capacity, or than a nonce or an HMAC may have.
     8 TooManyBytes {
         /// The place of the size.
@@ -223,9 +226,144 @@ refusals! {
 
 impl core::error::Error for Refusal {}
 
+/// Why a frame is not written, or sessions are not taken for one: a number too large, which nothing else is refused for, or a
+/// [`Refusal`] as other calls give it.
+///
+/// ```
+/// use skeinloft::{Sessions, TpmsAuth, WriteRefusal};
+///
+/// let entry = TpmsAuth { nonce: &[7; 65_536], ..TpmsAuth::default() };
+/// let refusal = Sessions::new(&[entry], &mut []).unwrap_err();
+/// if let WriteRefusal::IntegerTooLarge { value, .. } = refusal {
+///     println!("{value} is too large");
+/// }
+/// assert_eq!(refusal, WriteRefusal::IntegerTooLarge { offset: 0, value: 65_536 });
+/// assert_eq!((refusal.number(), refusal.name()), (7, "IntegerTooLarge"));
+/// assert_eq!(refusal.to_string(), "a number too large at byte 0: 65536");
+/// ```
+///
+/// A function that reads and writes answers with this: `?` takes the refusals of both.
+///
+/// ```
+/// use skeinloft::{Refusal, Rules, TpmCommand, WriteRefusal};
+///
+/// fn write_again(frame: &[u8], room: &mut [u8]) -> Result<usize, WriteRefusal> {
+///     let parts = TpmCommand::cast(Rules::STANDARD, frame)?.parts()?;
+///     parts.marshal(Rules::STANDARD, room)
+/// }
+///
+/// let refusal = write_again(&[0x80, 0x01], &mut []).unwrap_err();
+/// assert_eq!(refusal, Refusal::UnexpectedEnd { offset: 0, needed: 10, available: 2 }.into());
+/// assert_eq!(refusal.to_string(), "the bytes end too early at byte 0: needed 10, available 2");
+/// ```
+#[derive(Clone, Copy, Debug, PartialEq, Eq, Hash)]
+#[non_exhaustive]
+pub enum WriteRefusal {
+    /// A number too large for its field: a frame has more bytes than 32 bits can say, or a nonce or an HMAC more than 16 can.
+    IntegerTooLarge {
+        /// The place of the field.
+        offset: usize,
+        /// The number.
+        value: u64,
+    },
+    /// Every other refusal.
+    Other(Refusal),
+}
+
+impl WriteRefusal {
+    const INTEGER_TOO_LARGE: u32 = 7;
+
+    /// The refusal of a number, with the fields that the lent array holds.
+    pub(crate) fn new(number: u32, out: &Out) -> Self {
+        match number {
+            Self::INTEGER_TOO_LARGE => Self::IntegerTooLarge { offset: out[OFFSET] as usize, value: out[OFFSET + 1] },
+            _ => Self::Other(Refusal::new(number, out)),
+        }
+    }
+
+    /// The number.
+    ///
+    /// ```
+    /// assert_eq!(skeinloft::WriteRefusal::IntegerTooLarge { offset: 0, value: 1 << 32 }.number(), 7);
+    /// ```
+    #[must_use]
+    pub const fn number(&self) -> u32 {
+        match self {
+            Self::IntegerTooLarge { .. } => Self::INTEGER_TOO_LARGE,
+            Self::Other(refusal) => refusal.number(),
+        }
+    }
+
+    /// The name, which is the inner one's for [`Other`](Self::Other).
+    ///
+    /// ```
+    /// use skeinloft::{Refusal, WriteRefusal};
+    ///
+    /// let refusal = WriteRefusal::Other(Refusal::InvalidCc { offset: 0, value: 0x197 });
+    /// assert_eq!(refusal.name(), "InvalidCc");
+    /// ```
+    #[must_use]
+    pub const fn name(&self) -> &'static str {
+        match self {
+            Self::IntegerTooLarge { .. } => "IntegerTooLarge",
+            Self::Other(refusal) => refusal.name(),
+        }
+    }
+
+    /// The fields in their order, each with its name.
+    ///
+    /// ```
+    /// let refusal = skeinloft::WriteRefusal::IntegerTooLarge { offset: 0, value: 1 << 32 };
+    /// assert!(refusal.fields().eq([("offset", 0), ("value", 1 << 32)]));
+    /// ```
+    pub fn fields(&self) -> impl Iterator<Item = (&'static str, u64)> + use<> {
+        let (own, others) = match *self {
+            Self::IntegerTooLarge { offset, value } => (Some([("offset", offset as u64), ("value", value)]), None),
+            Self::Other(refusal) => (None, Some(refusal.fields())),
+        };
+        own.into_iter().flatten().chain(others.into_iter().flatten())
+    }
+
+    /// The place that the refusal names, as [`Refusal::offset`].
+    ///
+    /// ```
+    /// use skeinloft::{Sessions, TpmsAuth};
+    ///
+    /// let entry = TpmsAuth { nonce: &[7; 16], hmac: &[8; 65_536], ..TpmsAuth::default() };
+    /// assert_eq!(Sessions::new(&[entry], &mut [0; 64]).unwrap_err().offset(), 16);
+    /// ```
+    #[must_use]
+    pub const fn offset(&self) -> usize {
+        match self {
+            Self::IntegerTooLarge { offset, .. } => *offset,
+            Self::Other(refusal) => refusal.offset(),
+        }
+    }
+}
+
+impl From<Refusal> for WriteRefusal {
+    fn from(refusal: Refusal) -> Self {
+        Self::Other(refusal)
+    }
+}
+
+/// In words.
+impl fmt::Display for WriteRefusal {
+    fn fmt(&self, f: &mut fmt::Formatter) -> fmt::Result {
+        match self {
+            Self::IntegerTooLarge { offset, value } => write!(f, "a number too large at byte {offset}: {value}"),
+            Self::Other(refusal) => refusal.fmt(f),
+        }
+    }
+}
+
+/// The refusal inside [`Other`](Self::Other) is not its source: its words are this one's, and would be said twice.
+impl core::error::Error for WriteRefusal {}
+
 #[cfg(test)]
 mod tests {
-    use super::Refusal;
+    use super::{Refusal, WriteRefusal};
+    use core::error::Error;
 
     #[test]
     fn fields_come_from_their_places() {
@@ -236,8 +374,11 @@ mod tests {
 
     #[test]
     fn it_goes_where_errors_go() {
-        fn taken<T: core::error::Error + Send + Sync + 'static>(_: T) {}
+        fn taken<T: Error + Send + Sync + 'static>(error: T) {
+            assert!(error.source().is_none());
+        }
         taken(Refusal::new(1, &[0; 8]));
+        taken(WriteRefusal::new(1, &[0; 8]));
     }
 
     #[test]
@@ -245,7 +386,26 @@ mod tests {
         for number in 1..=120 {
             let refusal = Refusal::new(number, &[0; 8]);
             assert_eq!(refusal.number(), number);
-            assert_eq!(refusal.name() == "Unlisted", !matches!(number, 1..=9 | 13..=17));
+            assert_eq!(refusal.name() == "Unlisted", !matches!(number, 1..=6 | 8 | 9 | 13..=17));
+        }
+    }
+
+    #[test]
+    fn writers_have_one_more() {
+        let out = [1, 2, 3, 4, 5, 6, 7, 8];
+        for number in 1..=120 {
+            let refusal = WriteRefusal::new(number, &out);
+            assert_eq!(refusal.number(), number);
+            if number == 7 {
+                assert_eq!(refusal, WriteRefusal::IntegerTooLarge { offset: 5, value: 6 });
+                assert_eq!((refusal.name(), refusal.offset()), ("IntegerTooLarge", 5));
+                assert!(refusal.fields().eq([("offset", 5), ("value", 6)]));
+                continue;
+            }
+            let other = Refusal::new(number, &out);
+            assert_eq!(refusal, WriteRefusal::from(other));
+            assert_eq!((refusal.name(), refusal.offset()), (other.name(), other.offset()));
+            assert!(refusal.fields().eq(other.fields()));
         }
     }
 

@@ -3,11 +3,11 @@
 use crate::calls;
 use crate::cc::TpmCc;
 use crate::rc::TpmRc;
-use crate::refusal::Refusal;
+use crate::refusal::{Refusal, WriteRefusal};
 use crate::rules::{ResponseMode, Rules};
 use crate::session::Sessions;
 use crate::st::TpmSt;
-use crate::view::{Areas, ask, ask_parts, ask_split, ask_tag, part};
+use crate::view::{Areas, ask, ask_parts, ask_split, ask_tag, ask_writer, part};
 
 /// A response frame, borrowed: bytes that [`cast`](Self::cast) let through.
 ///
@@ -229,7 +229,7 @@ impl AsRef<[u8]> for TpmResponse<'_> {
 /// let mut room = [0; 64];
 /// let len = random.marshal(TpmCc::GetRandom, &mut room)?;
 /// assert_eq!(TpmResponse::cast(Rules::STANDARD, &room[..len])?.parts(TpmCc::GetRandom)?, random);
-/// # Ok::<(), skeinloft::Refusal>(())
+/// # Ok::<(), skeinloft::WriteRefusal>(())
 /// ```
 #[derive(Clone, Copy, Debug, PartialEq, Eq)]
 pub struct ResponseParts<'a> {
@@ -254,7 +254,8 @@ impl ResponseParts<'_> {
     /// The first of: more than three sessions, a command code that is none, a response code that does not read, sessions with
     /// a code that is not success, a code that does not go with the mode's tag, handles that are not the response's in
     /// number, in the standard mode a nonce or an HMAC of more than [`MAX_DIGEST_SIZE`](crate::MAX_DIGEST_SIZE) bytes, more
-    /// bytes than a frame's size can say, room that is too short. The room is then as it was.
+    /// bytes than a frame's size can say, which is [`WriteRefusal::IntegerTooLarge`], room that is too short. The room is then
+    /// as it was.
     ///
     /// ```
     /// use skeinloft::{Refusal, ResponseMode, Rules, TpmCc, TpmResponse};
@@ -267,8 +268,8 @@ impl ResponseParts<'_> {
     ///
     /// parts.mode = ResponseMode::BadTag;
     /// let refusal = parts.marshal(TpmCc::Unseal, &mut room).unwrap_err();
-    /// assert_eq!(refusal, Refusal::InvalidRc { offset: 0, value: 0x101 });
-    /// # Ok::<(), Refusal>(())
+    /// assert_eq!(refusal, Refusal::InvalidRc { offset: 0, value: 0x101 }.into());
+    /// # Ok::<(), skeinloft::WriteRefusal>(())
     /// ```
     ///
     /// ```
@@ -282,13 +283,12 @@ impl ResponseParts<'_> {
     /// let mut room = [0; 84];
     /// assert_eq!(cleared(ResponseMode::Rust).marshal(TpmCc::Clear, &mut room)?, 84);
     /// let refusal = cleared(ResponseMode::Standard).marshal(TpmCc::Clear, &mut room).unwrap_err();
-    /// assert_eq!(refusal, Refusal::TooManyBytes { offset: 0, limit: 64, actual: 65 });
-    /// # Ok::<(), Refusal>(())
+    /// assert_eq!(refusal, Refusal::TooManyBytes { offset: 0, limit: 64, actual: 65 }.into());
+    /// # Ok::<(), skeinloft::WriteRefusal>(())
     /// ```
     #[doc(alias = "tpm_marshal_response")]
-    pub fn marshal(&self, cc: TpmCc, room: &mut [u8]) -> Result<usize, Refusal> {
+    pub fn marshal(&self, cc: TpmCc, room: &mut [u8]) -> Result<usize, WriteRefusal> {
         let handed = self.sessions.handed(self.handles, self.parameters);
-        let [len, ..] = ask(|out| calls::response_write(self.mode.number(), self.rc.value(), cc.0, handed, room, out))?;
-        Ok(len as usize)
+        ask_writer(|out| calls::response_write(self.mode.number(), self.rc.value(), cc.0, handed, room, out))
     }
 }

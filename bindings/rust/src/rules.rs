@@ -109,7 +109,7 @@ pub enum Reading {
 /// let mut room = [0; 10];
 /// bad_tag.marshal(TpmCc::Startup, &mut room)?;
 /// assert_eq!(room, [0x00, 0xC4, 0, 0, 0, 10, 0, 0, 0, 0x1E]);
-/// # Ok::<(), skeinloft::Refusal>(())
+/// # Ok::<(), skeinloft::WriteRefusal>(())
 /// ```
 #[derive(Clone, Copy, Debug, PartialEq, Eq, Hash)]
 pub enum ResponseMode {

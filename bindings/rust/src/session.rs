@@ -1,7 +1,7 @@
 //! Sessions: the entries of an authorization area.
 
 use crate::calls::{self, Field, Handed, Session};
-use crate::refusal::Refusal;
+use crate::refusal::{Refusal, WriteRefusal};
 use core::fmt;
 use core::ops::BitOr;
 
@@ -135,7 +135,7 @@ pub struct TpmsAuth<'a> {
 /// let sessions = Sessions::new(&[password], &mut room)?;
 /// assert_eq!(sessions.len(), 1);
 /// assert!(sessions.iter().eq([password]));
-/// # Ok::<(), skeinloft::Refusal>(())
+/// # Ok::<(), skeinloft::WriteRefusal>(())
 /// ```
 #[derive(Clone, Copy, Default)]
 pub struct Sessions<'a> {
@@ -149,17 +149,17 @@ impl<'a> Sessions<'a> {
     ///
     /// # Errors
     ///
-    /// [`Refusal::BufferOverflow`] where the room is too short, and [`Refusal::IntegerTooLarge`] for a nonce or an HMAC of
-    /// more than 65,535 bytes.
+    /// [`Refusal::BufferOverflow`] where the room is too short, and [`WriteRefusal::IntegerTooLarge`] for a nonce or an HMAC
+    /// of more than 65,535 bytes.
     ///
     /// ```
     /// use skeinloft::{Refusal, Sessions, TpmsAuth};
     ///
     /// let entry = TpmsAuth { nonce: &[7; 16], hmac: &[8; 32], ..TpmsAuth::default() };
     /// let refusal = Sessions::new(&[entry, entry], &mut [0; 64]).unwrap_err();
-    /// assert_eq!(refusal, Refusal::BufferOverflow { offset: 64, needed: 32, available: 0 });
+    /// assert_eq!(refusal, Refusal::BufferOverflow { offset: 64, needed: 32, available: 0 }.into());
     /// ```
-    pub fn new(entries: &[TpmsAuth], room: &'a mut [u8]) -> Result<Self, Refusal> {
+    pub fn new(entries: &[TpmsAuth], room: &'a mut [u8]) -> Result<Self, WriteRefusal> {
         let mut record = calls::Sessions { count: entries.len(), ..calls::Sessions::default() };
         let mut taken = 0;
         for (place, entry) in record.three.iter_mut().zip(entries) {
@@ -223,9 +223,9 @@ impl<'a> Sessions<'a> {
 }
 
 /// Copies the bytes to the room behind those that are taken, and tells where they are.
-fn lay(bytes: &[u8], taken: &mut usize, room: &mut [u8]) -> Result<Field, Refusal> {
+fn lay(bytes: &[u8], taken: &mut usize, room: &mut [u8]) -> Result<Field, WriteRefusal> {
     let (at, needed) = (*taken, bytes.len());
-    let size = u16::try_from(needed).map_err(|_| Refusal::IntegerTooLarge { offset: at, value: needed as u64 })?;
+    let size = u16::try_from(needed).map_err(|_| WriteRefusal::IntegerTooLarge { offset: at, value: needed as u64 })?;
     let free = &mut room[at..];
     let available = free.len();
     let place = free.get_mut(..needed).ok_or(Refusal::BufferOverflow { offset: at, needed, available })?;

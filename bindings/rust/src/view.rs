@@ -1,16 +1,26 @@
 //! What all views share: how a call is asked, and how its answer becomes a part of the bytes.
 
 use crate::calls::{self, Frame, Out, Parts, Span};
-use crate::refusal::Refusal;
+use crate::refusal::{Refusal, WriteRefusal};
 use crate::st::TpmSt;
 use core::ops::Range;
 
 /// Makes a call: the answer's numbers, or the refusal.
 pub(crate) fn ask(call: impl FnOnce(&mut Out) -> u32) -> Result<[u64; 4], Refusal> {
+    ask_or(Refusal::new, call)
+}
+
+/// Makes the call of a writer: how many bytes the frame takes, or the refusal.
+pub(crate) fn ask_writer(call: impl FnOnce(&mut Out) -> u32) -> Result<usize, WriteRefusal> {
+    ask_or(WriteRefusal::new, call).map(|[len, ..]| len as usize)
+}
+
+/// Makes a call: the answer's numbers, or what a refusal's number and the array are turned into.
+fn ask_or<E>(refused: impl FnOnce(u32, &Out) -> E, call: impl FnOnce(&mut Out) -> u32) -> Result<[u64; 4], E> {
     let mut out = [0; 8];
     match call(&mut out) {
         0 => Ok([out[0], out[1], out[2], out[3]]),
-        number => Err(Refusal::new(number, &out)),
+        number => Err(refused(number, &out)),
     }
 }
 

@@ -1,6 +1,9 @@
 //! Real frames, a command and its answer a line: what passes is written again from its parts.
 
-use skeinloft::{Refusal, ResponseParts, Rules, Sessions, TpmCc, TpmCommand, TpmResponse, TpmSt, TpmsAuth};
+use skeinloft::{
+    CommandParts, Refusal, ResponseMode, ResponseParts, Rules, Sessions, TpmCc, TpmCommand, TpmRc, TpmResponse, TpmSt,
+    TpmsAuth, WriteRefusal,
+};
 
 const PAIRS: &str = include_str!("../../../compare/src/frame/real.txt");
 
@@ -23,7 +26,7 @@ fn copied<'a>(sessions: Sessions, room: &'a mut [u8]) -> Sessions<'a> {
 }
 
 /// What comes of writing: the bytes.
-fn written(write: impl FnOnce(&mut [u8]) -> Result<usize, Refusal>) -> Result<Vec<u8>, Refusal> {
+fn written(write: impl FnOnce(&mut [u8]) -> Result<usize, WriteRefusal>) -> Result<Vec<u8>, WriteRefusal> {
     let mut room = [0xFF; 8192];
     let len = write(&mut room)?;
     assert!(room[len..].iter().all(|&byte| byte == 0xFF), "the room behind the frame stays as it was");
@@ -44,7 +47,7 @@ fn commands_are_written_as_they_were_read() {
             }
             Err(refusal) => {
                 assert!(parts.sessions.is_empty());
-                assert_eq!(refusal, Refusal::InvalidTag { offset: 0, value: TpmSt::Sessions.value().into() });
+                assert_eq!(refusal, Refusal::InvalidTag { offset: 0, value: TpmSt::Sessions.value().into() }.into());
                 bare += 1;
             }
         }
@@ -122,5 +125,46 @@ fn four_sessions_are_not_written() {
     parts.sessions = Sessions::new(&[TpmsAuth::default(); 4], &mut room).expect("there is room");
     assert_eq!(parts.sessions.iter().count(), 3);
     let refusal = Refusal::TooManyItems { offset: 0, limit: 3, actual: 4 };
-    assert_eq!(parts.marshal(Rules::STANDARD, &mut [0; 64]), Err(refusal));
+    assert_eq!(parts.marshal(Rules::STANDARD, &mut [0; 64]), Err(refusal.into()));
+}
+
+#[test]
+fn a_total_of_more_than_32_bits_is_too_large() {
+    let largest = u32::MAX as usize;
+    if Vec::<u8>::new().try_reserve_exact(largest).is_err() {
+        println!("no such total is tried, since there is no memory for one");
+        return;
+    }
+    // zeros that nobody reads: they take addresses and no memory
+    let zeros = vec![0; largest];
+    let written = |total: usize| {
+        let (tag, cc, rc, handles, sessions) =
+            (TpmSt::NoSessions, TpmCc::Startup, TpmRc::SUCCESS, &[][..], Sessions::default());
+        let parameters = &zeros[..total - 10];
+        let mut room = [0xFF; 12];
+        let results = [
+            CommandParts { tag, cc, handles, sessions, parameters }.marshal(Rules::STANDARD, &mut room),
+            ResponseParts { mode: ResponseMode::Standard, rc, handles, sessions, parameters }.marshal(cc, &mut room),
+        ];
+        assert_eq!(room, [0xFF; 12]);
+        results
+    };
+    let short = Refusal::BufferOverflow { offset: 0, needed: largest, available: 12 };
+    assert_eq!(written(largest), [Err(short.into()); 2]);
+    let large = WriteRefusal::IntegerTooLarge { offset: 0, value: 1 << 32 };
+    assert_eq!(written(largest + 1), [Err(large); 2]);
+}
+
+#[test]
+fn a_nonce_or_an_hmac_of_more_than_16_bits_is_too_large() {
+    let (bytes, mut room) = (vec![7; 65_536], vec![0; 65_551]);
+    let mut taken = |nonce, hmac| {
+        let entry = TpmsAuth { nonce: &bytes[..nonce], hmac: &bytes[..hmac], ..TpmsAuth::default() };
+        Sessions::new(&[entry], &mut room).map(|sessions| sessions.len())
+    };
+    let large = |offset| Err(WriteRefusal::IntegerTooLarge { offset, value: 65_536 });
+    assert_eq!((taken(65_535, 16), taken(16, 65_535)), (Ok(1), Ok(1)));
+    assert_eq!((taken(65_536, 16), taken(16, 65_536)), (large(0), large(16)));
+    let short = Refusal::BufferOverflow { offset: 65_535, needed: 17, available: 16 };
+    assert_eq!(taken(65_535, 17), Err(short.into()));
 }

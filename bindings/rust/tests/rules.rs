@@ -3,7 +3,7 @@
 
 use skeinloft::{
     CommandParts, MAX_DIGEST_SIZE, Refusal, ResponseMode, ResponseParts, Rules, Sessions, TpmCc, TpmCommand, TpmRc,
-    TpmRcBase, TpmResponse, TpmSt, TpmsAuth,
+    TpmRcBase, TpmResponse, TpmSt, TpmsAuth, WriteRefusal,
 };
 
 /// What a TPM answers to a command whose tag it does not understand.
@@ -121,7 +121,7 @@ fn the_writer_refuses_in_order() {
         let sessions = Sessions::new(&[TpmsAuth::default(); 4][..count], &mut []).expect("they are empty");
         let parts = ResponseParts { mode: ResponseMode::BadTag, rc: code, handles: &[], sessions, parameters: &[] };
         let mut written = [0xFF; 10];
-        assert_eq!(parts.marshal(cc, &mut written[..room]), Err(due));
+        assert_eq!(parts.marshal(cc, &mut written[..room]), Err(due.into()));
         assert_eq!(written, [0xFF; 10]);
     }
 }
@@ -223,7 +223,7 @@ fn a_size_is_judged_before_the_bytes_behind_it() {
 }
 
 /// Writes entries of these sizes by the rules of either reading, in a command and in a response to it.
-fn written(sizes: &[[u16; 2]], handles: &[u8], room: &mut [u8]) -> [[Result<usize, Refusal>; 2]; 2] {
+fn written(sizes: &[[u16; 2]], handles: &[u8], room: &mut [u8]) -> [[Result<usize, WriteRefusal>; 2]; 2] {
     let (bytes, mut scratch) = (vec![7; 65535], vec![0; 400_000]);
     let of = |size: u16| &bytes[..size.into()];
     let entries: Vec<TpmsAuth> = sizes
@@ -246,7 +246,7 @@ fn long_fields_are_written_by_the_rust_rules_alone() {
     for (field, size) in fields().flat_map(|field| SIZES.map(|size| (field, size))) {
         for [rust, standard] in written(&one_of(size, field), &[], &mut room) {
             assert!(rust.is_ok());
-            assert_eq!(standard, too_long(0, size).and(rust), "{field:?} {size}");
+            assert_eq!(standard, too_long(0, size).map_err(WriteRefusal::from).and(rust), "{field:?} {size}");
         }
     }
 }
@@ -266,7 +266,7 @@ fn the_writers_judge_each_field_in_turn() {
     ] {
         let mut room = [0xFF; 9];
         for [_, standard] in written(sizes, handles, &mut room) {
-            assert_eq!(standard, Err(due));
+            assert_eq!(standard, Err(due.into()));
         }
         assert_eq!(room, [0xFF; 9]);
     }
