@@ -49,7 +49,10 @@ extern "C" {
 
 /* ---- numbers and places */
 
-/* What a call returns. Behind each refusal are its fields. */
+/* What a call returns. Behind each refusal are its fields.
+   The writers of frames alone can give 7: skein_command_write, skein_command_write_array, skein_response_write and
+   skein_response_write_array. No other call does, whatever the input, which is proved: code that only reads needs no case for
+   it. */
 enum skein_refusal {
     SKEIN_ANSWER = 0,
     SKEIN_UNEXPECTED_END = 1,    /* offset, needed, available: bytes end too early */
@@ -58,7 +61,7 @@ enum skein_refusal {
     SKEIN_INVALID_CC = 4,        /* offset, value: a command code that is none */
     SKEIN_INVALID_RC = 5,        /* offset, value: a response code that is none, or does not go with the tag */
     SKEIN_TOO_MANY_ITEMS = 6,    /* offset, limit, actual */
-    SKEIN_INTEGER_TOO_LARGE = 7, /* offset, value */
+    SKEIN_INTEGER_TOO_LARGE = 7, /* offset, value: of the four writers of frames alone */
     SKEIN_TOO_MANY_BYTES = 8,    /* offset, limit, actual */
     SKEIN_BUFFER_OVERFLOW = 9,   /* offset, needed, available: lent room too short */
     /* of the nonce keeper, without fields */
