@@ -16,6 +16,7 @@ static const uint8_t bad_tag[10] = {0x00, 0xC4, 0, 0, 0, 0x0A, 0, 0, 0, 0x1E};
 
 static int faults;
 
+/* Why a call refused. One that reads never gives SKEIN_INTEGER_TOO_LARGE, so there is no case for it. */
 static void say_refusal(uint32_t number, const uint64_t out[SKEIN_NUMBERS]) {
     unsigned long long second = out[SKEIN_SECOND], third = out[SKEIN_THIRD];
     const char *name = "another refusal";
@@ -26,7 +27,6 @@ static void say_refusal(uint32_t number, const uint64_t out[SKEIN_NUMBERS]) {
     case SKEIN_INVALID_CC: name = "InvalidCc"; break;
     case SKEIN_INVALID_RC: name = "InvalidRc"; break;
     case SKEIN_TOO_MANY_ITEMS: name = "TooManyItems"; break;
-    case SKEIN_INTEGER_TOO_LARGE: name = "IntegerTooLarge"; break;
     case SKEIN_TOO_MANY_BYTES: name = "TooManyBytes"; break;
     case SKEIN_BUFFER_OVERFLOW: name = "BufferOverflow"; break;
     case SKEIN_NO_SUCH_KIND: name = "a kind that is none"; break;
@@ -40,6 +40,16 @@ static void say_refusal(uint32_t number, const uint64_t out[SKEIN_NUMBERS]) {
     case SKEIN_TOO_MANY_BYTES: printf("at most %llu and there are %llu\n", second, third); break;
     default: printf("%llu\n", second);
     }
+}
+
+/* The same of a writer of frames, which can give it. */
+static void say_write_refusal(uint32_t number, const uint64_t out[SKEIN_NUMBERS]) {
+    if (number != SKEIN_INTEGER_TOO_LARGE) {
+        say_refusal(number, out);
+        return;
+    }
+    printf("refused: IntegerTooLarge at %llu, %llu\n", (unsigned long long)out[SKEIN_OFFSET],
+           (unsigned long long)out[SKEIN_SECOND]);
 }
 
 static void say_area(const char *name, struct skein_span area) {
@@ -58,7 +68,7 @@ static void say_sessions(const struct skein_sessions *sessions) {
 /* What a writer left has to be the frame, with the room behind it as it was. */
 static void compare(uint32_t number, const uint64_t out[SKEIN_NUMBERS], const uint8_t *room, const uint8_t *frame, size_t len) {
     if (number) {
-        say_refusal(number, out);
+        say_write_refusal(number, out);
     } else if (out[SKEIN_FIRST] == len && !memcmp(room, frame, len) && room[len] == 0xEE) {
         printf("  written again: the same %zu bytes\n", len);
         return;
@@ -132,7 +142,7 @@ static void write_own(void) {
     out[SKEIN_FIRST] = 7;
     number = skein_command_write(SKEIN_RULES_STANDARD, SKEIN_NO_SESSIONS, 0x144, NULL, 0, sessions, NULL, 0, NULL, 0, NULL, 0,
                                  out);
-    say_refusal(number, out);
+    say_write_refusal(number, out);
     printf("  after that the array starts with %llu, as before\n", (unsigned long long)out[SKEIN_FIRST]);
 }
 
@@ -150,7 +160,7 @@ static void write_array(void) {
     compare(number, out, room, command, sizeof command);
     number = skein_command_write_array(SKEIN_RULES_STANDARD, SKEIN_SESSIONS, 0x15E, command + SKEIN_HEADER, 4, records,
                                        SKEIN_MAX_SESSIONS + 1, NULL, 0, NULL, 0, room, sizeof room, out);
-    say_refusal(number, out);
+    say_write_refusal(number, out);
 }
 
 /* A nonce as long as the standard rules allow, written, read, and copied to a buffer of that size; and one byte more. */
@@ -181,7 +191,7 @@ static void write_longest(void) {
     sessions.first.nonce.size++;
     number = skein_command_write(SKEIN_RULES_STANDARD, SKEIN_SESSIONS, 0x15E, command + SKEIN_HEADER, 4, sessions, lent,
                                  sizeof lent, NULL, 0, room, sizeof room, out);
-    say_refusal(number, out);
+    say_write_refusal(number, out);
 }
 
 /* Bytes that start with a command: where it stands, and where what is behind it. */
