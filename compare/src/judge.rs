@@ -20,6 +20,9 @@ pub trait Case: Clone + Display + 'static {
     /// Who is asked about this kind of call.
     const JUDGES: &'static [Judge<Self>];
 
+    /// Whether it is a writer of frames: no other call may come to 7, whatever the judges say.
+    const WRITES_FRAMES: bool = false;
+
     /// Brings `answer` to the state before the call, with all that is lent.
     fn preset(&self, answer: &mut Answer);
 
@@ -59,6 +62,9 @@ impl<C> Judge<C> {
 /// The number of the refusal of a length beyond a limit.
 pub const TOO_LONG: u32 = 8;
 
+/// The number of the refusal of a number that is too large for its field.
+pub const TOO_LARGE: u32 = 7;
+
 /// Mismatches of one call that are printed; the rest are only counted.
 pub const PRINTED: u64 = 5;
 
@@ -77,6 +83,9 @@ pub struct Count {
     /// were judged by those rules alone.
     by_crate: u64,
     pub by_tss: u64,
+    /// The calls that are no writers of frames, and those of them that came to 7.
+    pub not_writers: u64,
+    too_large: u64,
     pub mismatches: u64,
     /// Answers that the crate contradicts, that document 01's rules do, and that tpm2-tss does.
     pub against_crate: u64,
@@ -89,6 +98,8 @@ impl AddAssign for Count {
         self.calls += more.calls;
         self.by_crate += more.by_crate;
         self.by_tss += more.by_tss;
+        self.not_writers += more.not_writers;
+        self.too_large += more.too_large;
         self.mismatches += more.mismatches;
         self.against_crate += more.against_crate;
         self.against_rules += more.against_rules;
@@ -101,7 +112,10 @@ impl Display for Count {
         write!(f, "{} calls, {} mismatches: ", self.calls, self.mismatches)?;
         let alone = self.calls - self.by_crate - self.by_tss;
         write!(f, "{} judged by {CRATE}, {alone} by {RULES} alone", self.by_crate)?;
-        if self.by_tss > 0 { write!(f, ", {} by {TSS}", self.by_tss) } else { Ok(()) }
+        if self.by_tss > 0 {
+            write!(f, ", {} by {TSS}", self.by_tss)?;
+        }
+        if self.too_large > 0 { write!(f, "; {} came to 7 and are no writers", self.too_large) } else { Ok(()) }
     }
 }
 
@@ -141,9 +155,12 @@ impl AddAssign for Counts {
 pub struct Tally {
     name: String,
     by: By,
+    writes_frames: bool,
     calls: u64,
     /// Those that refuse a length.
     too_long: u64,
+    /// Those that came to 7 and may not.
+    too_large: u64,
     mismatches: u64,
     /// One for each judge, in their order.
     voices: Vec<Voice>,
@@ -162,8 +179,10 @@ impl Tally {
         Self {
             name: name.into() + by.word(),
             by,
+            writes_frames: C::WRITES_FRAMES,
             calls: 0,
             too_long: 0,
+            too_large: 0,
             mismatches: 0,
             voices: C::JUDGES.iter().map(|judge| Voice { judge: judge.name, spoke: 0, against: 0 }).collect(),
             ours: Answer::new(),
@@ -180,8 +199,16 @@ impl Tally {
         self.too_long
     }
 
+    /// What may not be 7 and is counts as a mismatch with document 01's rules.
     pub fn count(&self) -> Count {
-        let mut count = Count { calls: self.calls, mismatches: self.mismatches, ..Count::default() };
+        let mut count = Count {
+            calls: self.calls,
+            not_writers: if self.writes_frames { 0 } else { self.calls },
+            too_large: self.too_large,
+            mismatches: self.mismatches + self.too_large,
+            against_rules: self.too_large,
+            ..Count::default()
+        };
         for voice in &self.voices {
             match voice.judge {
                 CRATE => {
@@ -201,9 +228,8 @@ impl Tally {
     /// Makes the call once and holds it to every judge that speaks. It counts as one mismatch, whoever contradicts, and
     /// is reported beside the first that does.
     pub fn check<C: Case>(&mut self, case: &C) {
-        self.calls += 1;
         self.ask_ours(case);
-        self.too_long += u64::from(self.ours.said.number() == TOO_LONG);
+        self.came_to(self.ours.said.number());
         let (mut judged, mut first) = (false, None);
         for (i, judge) in C::JUDGES.iter().enumerate() {
             if !self.ask(judge, case) {
@@ -224,12 +250,18 @@ impl Tally {
 
     /// Adds a call that the suite itself has made and held to the judges that spoke, none of whom contradicts its answer.
     pub fn agreed(&mut self, answer: &Answer, spoke: impl Iterator<Item = bool>) {
-        self.calls += 1;
-        self.too_long += u64::from(answer.said.number() == TOO_LONG);
+        self.came_to(answer.said.number());
         self.voices.iter_mut().zip(spoke).for_each(|(voice, spoke)| voice.spoke += u64::from(spoke));
     }
 
-    /// Adds calls that the suite itself has made and held to the first judge.
+    /// Counts a call by the number that it came to.
+    fn came_to(&mut self, number: u32) {
+        self.calls += 1;
+        self.too_long += u64::from(number == TOO_LONG);
+        self.too_large += u64::from(number == TOO_LARGE && !self.writes_frames);
+    }
+
+    /// Adds calls that the suite itself has made and held to the first judge, with each that came to 7 among the mismatches.
     pub fn add(&mut self, calls: u64, mismatches: u64) {
         self.calls += calls;
         self.mismatches += mismatches;
@@ -241,6 +273,7 @@ impl Tally {
     pub fn merge(&mut self, other: &Self) {
         self.calls += other.calls;
         self.too_long += other.too_long;
+        self.too_large += other.too_large;
         self.mismatches += other.mismatches;
         for (mine, more) in self.voices.iter_mut().zip(&other.voices) {
             mine.spoke += more.spoke;

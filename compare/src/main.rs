@@ -113,7 +113,12 @@ fn compare(seed: u64, thin: bool, suites: &[&Suite]) -> ExitCode {
     verdict(judge::TSS, of_made.by_tss > 0, of_made.against_tss);
     made += recorded;
     made.tell("compare");
-    if made.all().mismatches == 0 { ExitCode::SUCCESS } else { ExitCode::FAILURE }
+    let all = made.all();
+    if all.mismatches > 0 {
+        return ExitCode::FAILURE;
+    }
+    println!("compare: {} of the calls are no writers of frames, and none of these came to 7", all.not_writers);
+    ExitCode::SUCCESS
 }
 
 fn one_suite(suite: &Suite, seed: u64, thin: bool) -> Counts {

@@ -15,7 +15,7 @@ use crate::by::{By, Given};
 use crate::calls::{self, Field, RUST, STANDARD, Session, Sessions, Span};
 use crate::frame::make::{self, PLAIN, SESSIONS};
 use crate::frame::{known, real};
-use crate::judge::{Case, Judge, TSS, Tally};
+use crate::judge::{Case, Judge, TOO_LARGE, TSS, Tally};
 use crate::random::Random;
 use crate::{shrink, traffic};
 use library::Command;
@@ -41,7 +41,7 @@ impl fmt::Display for Taken {
     }
 }
 
-/// What is told of a command: whether it is refused, not by which number.
+/// What is told of a command: whether it is refused, not by which number, but for one that it may not come to.
 const PASSES: u32 = 0;
 const REFUSED: u32 = 1;
 
@@ -58,7 +58,7 @@ impl Case for Taken {
                 true => keep(calls::command_parts(STANDARD, s, &mut [0; 8]), kept),
                 false => calls::command_validate(STANDARD, s, &mut [0; 8]),
             };
-            Some(if number == 0 { PASSES } else { REFUSED })
+            Some(if matches!(number, PASSES | TOO_LARGE) { number } else { REFUSED })
         });
     }
 

@@ -96,6 +96,8 @@ impl Case for Write {
         Judge::document_01(by_document),
     ];
 
+    const WRITES_FRAMES: bool = true;
+
     /// What is only read is lent too, and has to stay.
     fn preset(&self, answer: &mut Answer) {
         answer.preset([&FILL[..self.room], &self.handles, &self.lent, &self.parameters]);

@@ -14,7 +14,7 @@ use super::step::NAMES;
 use super::{Pair, Step};
 use crate::answer::{Answer, Hex, Said};
 use crate::calls::{self, Keeper};
-use crate::judge::{Case, Judge, Tally};
+use crate::judge::{Case, Judge, TOO_LARGE, Tally};
 use crate::random::Random;
 use crate::shrink;
 use std::collections::BTreeMap;
@@ -95,6 +95,7 @@ impl Any {
         let all = [
             (told[0] == UNHARMED, HARM),
             (self.can_be_said(before).contains(&said) || self.gives_a_nonce(&said), SAID),
+            (said.number() != TOO_LARGE, SAID),
             (within && said.values().all(|value| value != u64::MAX), LIMIT),
             (opened, OPENED),
             (left, LEFT),

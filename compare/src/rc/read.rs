@@ -3,7 +3,7 @@
 
 use crate::answer::{Answer, Said};
 use crate::frame::known;
-use crate::judge::{self, Case, Judge, PRINTED, Tally};
+use crate::judge::{self, Case, Judge, PRINTED, TOO_LARGE, Tally};
 use crate::random::Random;
 use crate::{calls, shrink};
 use std::fmt;
@@ -133,7 +133,7 @@ fn sweep(codes: impl Iterator<Item = u32>) -> Found {
         let (mut we, mut they) = (Said::NOTHING, Said::NOTHING);
         ours(code, &mut we);
         theirs(code, &mut they);
-        if we == they { found.agreed(&we) } else { found.differed(code) }
+        if we == they && we.number() != TOO_LARGE { found.agreed(&we) } else { found.differed(code) }
     }
     found
 }
