@@ -266,8 +266,8 @@ pub enum WriteRefusal {
         /// The number.
         value: u64,
     },
-    /// Every other refusal.
-    Other(Refusal),
+    /// A refusal that other calls give as well.
+    Common(Refusal),
 }
 
 impl WriteRefusal {
@@ -277,7 +277,7 @@ impl WriteRefusal {
     pub(crate) fn new(number: u32, out: &Out) -> Self {
         match number {
             Self::INTEGER_TOO_LARGE => Self::IntegerTooLarge { offset: out[OFFSET] as usize, value: out[OFFSET + 1] },
-            _ => Self::Other(Refusal::new(number, out)),
+            _ => Self::Common(Refusal::new(number, out)),
         }
     }
 
@@ -290,23 +290,23 @@ impl WriteRefusal {
     pub const fn number(&self) -> u32 {
         match self {
             Self::IntegerTooLarge { .. } => Self::INTEGER_TOO_LARGE,
-            Self::Other(refusal) => refusal.number(),
+            Self::Common(refusal) => refusal.number(),
         }
     }
 
-    /// The name, which is the inner one's for [`Other`](Self::Other).
+    /// The name, which is the inner one's for [`Common`](Self::Common).
     ///
     /// ```
     /// use skeinloft::{Refusal, WriteRefusal};
     ///
-    /// let refusal = WriteRefusal::Other(Refusal::InvalidCc { offset: 0, value: 0x197 });
+    /// let refusal = WriteRefusal::Common(Refusal::InvalidCc { offset: 0, value: 0x197 });
     /// assert_eq!(refusal.name(), "InvalidCc");
     /// ```
     #[must_use]
     pub const fn name(&self) -> &'static str {
         match self {
             Self::IntegerTooLarge { .. } => "IntegerTooLarge",
-            Self::Other(refusal) => refusal.name(),
+            Self::Common(refusal) => refusal.name(),
         }
     }
 
@@ -319,7 +319,7 @@ impl WriteRefusal {
     pub fn fields(&self) -> impl Iterator<Item = (&'static str, u64)> + use<> {
         let (own, others) = match *self {
             Self::IntegerTooLarge { offset, value } => (Some([("offset", offset as u64), ("value", value)]), None),
-            Self::Other(refusal) => (None, Some(refusal.fields())),
+            Self::Common(refusal) => (None, Some(refusal.fields())),
         };
         own.into_iter().flatten().chain(others.into_iter().flatten())
     }
@@ -336,14 +336,14 @@ impl WriteRefusal {
     pub const fn offset(&self) -> usize {
         match self {
             Self::IntegerTooLarge { offset, .. } => *offset,
-            Self::Other(refusal) => refusal.offset(),
+            Self::Common(refusal) => refusal.offset(),
         }
     }
 }
 
 impl From<Refusal> for WriteRefusal {
     fn from(refusal: Refusal) -> Self {
-        Self::Other(refusal)
+        Self::Common(refusal)
     }
 }
 
@@ -352,12 +352,12 @@ impl fmt::Display for WriteRefusal {
     fn fmt(&self, f: &mut fmt::Formatter) -> fmt::Result {
         match self {
             Self::IntegerTooLarge { offset, value } => write!(f, "a number too large at byte {offset}: {value}"),
-            Self::Other(refusal) => refusal.fmt(f),
+            Self::Common(refusal) => refusal.fmt(f),
         }
     }
 }
 
-/// The refusal inside [`Other`](Self::Other) is not its source: its words are this one's, and would be said twice.
+/// The refusal inside [`Common`](Self::Common) is not its source: its words are this one's, and would be said twice.
 impl core::error::Error for WriteRefusal {}
 
 #[cfg(test)]
