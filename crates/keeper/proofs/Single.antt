@@ -7,13 +7,12 @@ use mathlib.Core.Bool.{cond}
 use lib.Dec.{eqb}
 use lib.ListN.{getD}
 use Rattle.base.specs.declared.error.TpmError.{TpmError}
-use Rattle.base.specs.declared.error.TpmError.the-variants as error
 use Rattle.base.specs.Answer.{Part}
 use Rattle.base.specs.Error as frame
 use Rattle.base.specs.Said.{Said, gives, refuses}
 use Rattle.base.specs.Single.{Single}
 use Rattle.base.proofs.Answers.{injective-by}
-use Rattle.base.proofs.Refusals.{named, named-numbered}
+use Rattle.base.proofs.Refusals.{named, named-numbered, no-other}
 use Rattle.keeper.specs.declared.refusal.Refusal.{Refusal}
 use Rattle.keeper.specs.declared.refusal.Refusal.the-variants as refusal
 use Rattle.keeper.specs.declared.refusal.Outcome.{Outcome}
@@ -48,14 +47,7 @@ refusalOf why =
     (refusal.Frame (named why))))))
 
 told-frame : (e : TpmError) → refusalOf (frame.numbered e) ≡ refusal.Frame (named (frame.numbered e))
-told-frame (error.UnexpectedEnd o n a) = refl
-told-frame (error.TrailingData o a) = refl
-told-frame (error.InvalidTag o v) = refl
-told-frame (error.InvalidCc o v) = refl
-told-frame (error.InvalidRc o v) = refl
-told-frame (error.TooManyItems o l a) = refl
-told-frame (error.TooManyBytes o l a) = refl
-told-frame (error.BufferOverflow o n a) = refl
+told-frame e = rw (no-other 13 refl e, no-other 14 refl e, no-other 15 refl e, no-other 16 refl e, no-other 17 refl e) refl
 
 told-refusal : (e : Refusal) → refusalOf (numbered e) ≡ e
 told-refusal (refusal.Frame e) = told-frame e ∙ ap refusal.Frame (named-numbered e)
