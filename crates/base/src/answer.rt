@@ -53,7 +53,7 @@ pub enum Range {
     Refused(TpmError),
 }
 
-// Of a writer: the bytes of a frame.
+// Of a writer: how many bytes the frame takes.
 pub enum Total {
     Is(usize),
     Refused(WriteError),
