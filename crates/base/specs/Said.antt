@@ -42,5 +42,5 @@ abbrev pub refusesBy : {A : Type 0} → ℕ → Said A → Bool
 refusesBy n (gives a) = false
 refusesBy n (refuses why) = eqb (getD why 0 0) n
 
-abbrev pub Never : {A : Type 0} → ℕ → Said A → Type 0
-Never n said = refusesBy n said ≡ false
+pub record Never {A : Type 0} (n : ℕ) (said : Said A) : Type 0 where
+  pub other : refusesBy n said ≡ false

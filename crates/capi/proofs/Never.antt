@@ -3,7 +3,7 @@
 -- Assumes nothing.
 use mathlib.Core.Path.{_≡_, refl, sym, _∙_}
 use mathlib.Core.List.{List, [], _∷_}
-use Prim.Native.Nat.{ℕ, _+_}
+use Prim.Native.Nat.{ℕ}
 use native.Mathlib.Omega.{arith}
 use borrow.Author.Tests.{eqb-false}
 use borrow.Fn.Kinds.{PK, RK, Out, Dens, resT, endedOf}
@@ -11,28 +11,20 @@ use contract.Lifetimes.{Lfts}
 use denote.Ref.{now}
 use denote.Triple.Clauses.{Lasts, atExit}
 use lib.Dec.{eqb}
-use Rattle.base.specs.Field.{readField, writeField}
 use Rattle.base.specs.Parts.{upTo}
-use Rattle.base.specs.Said.{Said, gives, refuses, Never, done}
-use Rattle.base.proofs.Never.{by-cond, by-done, by-then, by-step, never-read, never-written}
-use Rattle.buffer.specs.Fixed.{buffer as record-of, held, wire, new, copied, marshalled, extended}
-use Rattle.buffer.specs.View.{prefix, whole}
+use Rattle.base.specs.Said.{Said, gives, refuses, Never}
+use Rattle.base.proofs.Never.{by-gives, by-refuses, by-cond, by-done, by-then, by-step, never-read, never-written}
 use Rattle.buffer.proofs.Never as buffer
-use Rattle.frame.specs.Answer.{commandByValue, responseByValue}
-use Rattle.frame.specs.Answer as all
-use Rattle.frame.specs.Command.{castCommand, castCommandPrefix, readCommand, handlesRange, authRange, parametersRange}
-use Rattle.frame.specs.Header.{readCc, readRc, setTag, setCc, setRc}
-use Rattle.frame.specs.Response.{castResponse, castResponsePrefix, readResponse}
+use Rattle.frame.specs.Answer.{whole, commandByValue, responseByValue}
+use Rattle.frame.specs.Command.{Division}
 use Rattle.frame.specs.Rules.{Rulebook, bookOf}
 use Rattle.frame.proofs.Never as frame
-use Rattle.keeper.specs.Keeper as keeping
-use Rattle.keeper.specs.State as state
 use Rattle.keeper.proofs.Never as keeper
 use Rattle.rc.proofs.Never.{never-code}
 use Rattle.table.specs.Dispatch.{dispatch}
 use Rattle.table.proofs.Never.{never-row}
 use Rattle.capi.specs.Code.{kindNumbered}
-use Rattle.capi.specs.Out.{Reports}
+use Rattle.capi.specs.Out.{returned, Reports}
 use Rattle.capi.specs.Rules.{rulesNumbered, under}
 use Rattle.capi.proofs.field.skein_read_u16.Kinds as skein-read-u16-kinds
 use Rattle.capi.proofs.field.skein_read_u16.Reads as skein-read-u16-reads
@@ -164,209 +156,224 @@ NotSeven n ps r number Post =
     (κs : Lfts n) (a : Dens κs ps) (x : resT r κs .Denot) (v : Lasts (endedOf n ps r) κs a) →
     Post κs a x (atExit (endedOf n ps r) κs a v) → number κs x ≡ 7 → ⊥
 
-not-seven : {A : Type 0} {of : A → List ℕ} (said : Said A) {old later : List ℕ} {r : ℕ} → Never 7 said → Reports of said old later r → r ≡ 7 → ⊥
-not-seven (gives a) p told e = let none = told .status in omega arith
-not-seven (refuses []) p told e = let none = told .status in omega arith
-not-seven (refuses (n ∷ fields)) p told e = eqb-false n 7 p (sym (told .status) ∙ e)
+not-returned : {A : Type 0} (said : Said A) → Never 7 said → returned said ≡ 7 → ⊥
+not-returned (gives a) p e = omega arith
+not-returned (refuses []) p e = omega arith
+not-returned (refuses (n ∷ fields)) p e = eqb-false n 7 (p .other) e
+
+not-seven : {A : Type 0} {of : A → List ℕ} {said : Said A} {old later : List ℕ} {r : ℕ} → Never 7 said → Reports of said old later r → r ≡ 7 → ⊥
+not-seven p told e = not-returned _ p (sym (told .status) ∙ e)
 
 -- the rules and the kind that a number names
-by-rules : {A : Type 0} (n : ℕ) (say : Rulebook → Said A) → ((book : Rulebook) → Never 7 (say book)) → Never 7 (under n say)
+by-rules : {A : Type 0} (n : ℕ) {say : Rulebook → Said A} → ((book : Rulebook) → Never 7 (say book)) → Never 7 (under n say)
 unfolding rulesNumbered
-by-rules n say p =
-    by-then (rulesNumbered n) _ (by-cond (eqb n 0) (gives _) _ refl (by-cond (eqb n 1) (gives _) (refuses _) refl refl)) (λ rules. p (bookOf rules))
+by-rules n p = by-then (by-cond (eqb n 0) by-gives (by-cond (eqb n 1) by-gives (by-refuses _ refl))) (λ rules. p (bookOf rules))
 
 never-kind : (n : ℕ) → Never 7 (kindNumbered n)
 unfolding kindNumbered
 never-kind n =
-    by-cond (eqb n 0) (gives _) _ refl
-    (by-cond (eqb n 1) (gives _) _ refl
-    (by-cond (eqb n 2) (gives _) _ refl
-    (by-cond (eqb n 3) (gives _) _ refl
-    (by-cond (eqb n 4) (gives _) _ refl
-    (by-cond (eqb n 5) (gives _) (refuses _) refl refl)))))
+    by-cond (eqb n 0) by-gives
+    (by-cond (eqb n 1) by-gives
+    (by-cond (eqb n 2) by-gives
+    (by-cond (eqb n 3) by-gives
+    (by-cond (eqb n 4) by-gives
+    (by-cond (eqb n 5) by-gives (by-refuses _ refl))))))
+
+-- what a call gives of a reading
+by-whole : {A : Type 0} (s : List ℕ) {read : Said A} → Never 7 read → Never 7 (whole s read)
+by-whole s p = by-step _ p
+
+by-up-to : {read : Said ℕ} → Never 7 read → Never 7 (upTo read)
+by-up-to p = by-step _ p
+
+by-command : (s : List ℕ) {division : Said Division} → Never 7 division → Never 7 (commandByValue s division)
+by-command s p = by-step _ p
+
+by-response : (s : List ℕ) {division : Said Division} → Never 7 division → Never 7 (responseByValue s division)
+by-response s p = by-step _ p
 
 skein-read-u16 : NotSeven 2 skein-read-u16-kinds.ps skein-read-u16-kinds.r (λ κs x. x) skein-read-u16-reads.Post
-skein-read-u16 κs a x v met = not-seven _ (never-read (a .0) (now (a .1 .0)) 2) met
+skein-read-u16 κs a x v met = not-seven (never-read (a .0) (now (a .1 .0)) 2) met
 
 skein-write-u16 : NotSeven 2 skein-write-u16-kinds.ps skein-write-u16-kinds.r (λ κs x. x) skein-write-u16-reads.Post
-skein-write-u16 κs a x v met = not-seven _ (by-done (writeField 2 (a .0) (a .1 .0) (now (a .1 .1 .0))) (never-written (a .0) (now (a .1 .1 .0)) 2 (a .1 .0))) (met .0)
+skein-write-u16 κs a x v met = not-seven (by-done (never-written (a .0) (now (a .1 .1 .0)) 2 (a .1 .0))) (met .0)
 
 skein-read-u32 : NotSeven 2 skein-read-u32-kinds.ps skein-read-u32-kinds.r (λ κs x. x) skein-read-u32-reads.Post
-skein-read-u32 κs a x v met = not-seven _ (never-read (a .0) (now (a .1 .0)) 4) met
+skein-read-u32 κs a x v met = not-seven (never-read (a .0) (now (a .1 .0)) 4) met
 
 skein-write-u32 : NotSeven 2 skein-write-u32-kinds.ps skein-write-u32-kinds.r (λ κs x. x) skein-write-u32-reads.Post
-skein-write-u32 κs a x v met = not-seven _ (by-done (writeField 4 (a .0) (a .1 .0) (now (a .1 .1 .0))) (never-written (a .0) (now (a .1 .1 .0)) 4 (a .1 .0))) (met .0)
+skein-write-u32 κs a x v met = not-seven (by-done (never-written (a .0) (now (a .1 .1 .0)) 4 (a .1 .0))) (met .0)
 
 skein-rc-read : NotSeven 1 skein-rc-read-kinds.ps skein-rc-read-kinds.r (λ κs x. x) skein-rc-read-reads.Post
-skein-rc-read κs a x v met = not-seven _ (never-code (a .0)) met
+skein-rc-read κs a x v met = not-seven (never-code _) met
 
 skein-rc-value : NotSeven 1 skein-rc-value-kinds.ps skein-rc-value-kinds.r (λ κs x. x) skein-rc-value-reads.Post
-skein-rc-value κs a x v met = not-seven _ (by-step (kindNumbered (a .0)) _ (never-kind (a .0))) met
+skein-rc-value κs a x v met = not-seven (by-step _ (never-kind _)) met
 
 skein-tpm2b-validate-prefix : NotSeven 2 skein-tpm2b-validate-prefix-kinds.ps skein-tpm2b-validate-prefix-kinds.r (λ κs x. x) skein-tpm2b-validate-prefix-reads.Post
-skein-tpm2b-validate-prefix κs a x v met = not-seven _ (buffer.never-prefix (now (a .1 .0)) (a .0)) met
+skein-tpm2b-validate-prefix κs a x v met = not-seven (buffer.never-prefix _ _) met
 
 skein-tpm2b-validate : NotSeven 2 skein-tpm2b-validate-kinds.ps skein-tpm2b-validate-kinds.r (λ κs x. x) skein-tpm2b-validate-reads.Post
-skein-tpm2b-validate κs a x v met = not-seven _ (by-done (whole (a .0) (now (a .1 .0))) (buffer.never-whole (now (a .1 .0)) (a .0))) met
+skein-tpm2b-validate κs a x v met = not-seven (by-done (buffer.never-whole _ _)) met
 
 skein-tpm2b-cast : NotSeven 2 skein-tpm2b-cast-kinds.ps skein-tpm2b-cast-kinds.r (λ κs x. x) skein-tpm2b-cast-reads.Post
-skein-tpm2b-cast κs a x v met = not-seven _ (by-step (whole (a .0) (now (a .1 .0))) _ (buffer.never-whole (now (a .1 .0)) (a .0))) met
+skein-tpm2b-cast κs a x v met = not-seven (by-up-to (buffer.never-whole _ _)) met
 
 skein-tpm2b-cast-prefix : NotSeven 2 skein-tpm2b-cast-prefix-kinds.ps skein-tpm2b-cast-prefix-kinds.r (λ κs x. x) skein-tpm2b-cast-prefix-reads.Post
-skein-tpm2b-cast-prefix κs a x v met = not-seven _ (by-step (prefix (a .0) (now (a .1 .0))) _ (buffer.never-prefix (now (a .1 .0)) (a .0))) met
+skein-tpm2b-cast-prefix κs a x v met = not-seven (by-up-to (buffer.never-prefix _ _)) met
 
 skein-tpm2b-size : NotSeven 2 skein-tpm2b-size-kinds.ps skein-tpm2b-size-kinds.r (λ κs x. x) skein-tpm2b-size-reads.Post
-skein-tpm2b-size κs a x v met = not-seven _ (buffer.never-size (now (a .0))) met
+skein-tpm2b-size κs a x v met = not-seven (buffer.never-size _) met
 
 skein-tpm2b-data : NotSeven 2 skein-tpm2b-data-kinds.ps skein-tpm2b-data-kinds.r (λ κs x. x) skein-tpm2b-data-reads.Post
-skein-tpm2b-data κs a x v met = not-seven _ (buffer.never-data (now (a .0))) met
+skein-tpm2b-data κs a x v met = not-seven (buffer.never-data _) met
 
 skein-tpm2b-is-empty : NotSeven 2 skein-tpm2b-is-empty-kinds.ps skein-tpm2b-is-empty-kinds.r (λ κs x. x) skein-tpm2b-is-empty-reads.Post
-skein-tpm2b-is-empty κs a x v met = not-seven _ (buffer.never-empty (now (a .0))) met
+skein-tpm2b-is-empty κs a x v met = not-seven (buffer.never-empty _) met
 
 skein-tpm2b-len : NotSeven 2 skein-tpm2b-len-kinds.ps skein-tpm2b-len-kinds.r (λ κs x. x) skein-tpm2b-len-reads.Post
-skein-tpm2b-len κs a x v met = not-seven _ refl met
+skein-tpm2b-len κs a x v met = not-seven by-gives met
 
 skein-buffer64-new : NotSeven 2 skein-buffer64-new-kinds.ps skein-buffer64-new-kinds.r (λ κs x. x) skein-buffer64-new-reads.Post
-skein-buffer64-new κs a x v met = not-seven _ refl (met .0)
+skein-buffer64-new κs a x v met = not-seven by-gives (met .0)
 
 skein-buffer64-wire-len : NotSeven 1 skein-buffer64-wire-len-kinds.ps skein-buffer64-wire-len-kinds.r (λ κs x. x) skein-buffer64-wire-len-reads.Post
-skein-buffer64-wire-len κs a x v met = not-seven _ (buffer.never-wire-length 64 (a .0)) met
+skein-buffer64-wire-len κs a x v met = not-seven (buffer.never-wire-length _ _) met
 
 skein-buffer64-held : NotSeven 3 skein-buffer64-held-kinds.ps skein-buffer64-held-kinds.r (λ κs x. x) skein-buffer64-held-reads.Post
-skein-buffer64-held κs a x v met = not-seven _ (by-step (copied 64 (record-of (a .0) (now (a .1 .0))) (now (a .1 .1 .0))) _ (buffer.never-emitted 64 (a .0) (held (record-of (a .0) (now (a .1 .0)))) (now (a .1 .1 .0)))) (met .0)
+skein-buffer64-held κs a x v met = not-seven (by-step _ (buffer.never-emitted _ _ _ _)) (met .0)
 
 skein-buffer64-marshal : NotSeven 3 skein-buffer64-marshal-kinds.ps skein-buffer64-marshal-kinds.r (λ κs x. x) skein-buffer64-marshal-reads.Post
-skein-buffer64-marshal κs a x v met = not-seven _ (by-step (marshalled 64 (record-of (a .0) (now (a .1 .0))) (now (a .1 .1 .0))) _ (buffer.never-emitted 64 (a .0) (wire (record-of (a .0) (now (a .1 .0)))) (now (a .1 .1 .0)))) (met .0)
+skein-buffer64-marshal κs a x v met = not-seven (by-step _ (buffer.never-emitted _ _ _ _)) (met .0)
 
 skein-buffer64-eq : NotSeven 3 skein-buffer64-eq-kinds.ps skein-buffer64-eq-kinds.r (λ κs x. x) skein-buffer64-eq-reads.Post
-skein-buffer64-eq κs a x v met = not-seven _ (buffer.never-equal 64 (record-of (a .0) (now (a .1 .0))) (record-of (a .1 .1 .0) (now (a .1 .1 .1 .0)))) met
+skein-buffer64-eq κs a x v met = not-seven (buffer.never-equal _ _ _) met
 
 skein-buffer64-push : NotSeven 2 skein-buffer64-push-kinds.ps skein-buffer64-push-kinds.r (λ κs x. x) skein-buffer64-push-reads.Post
-skein-buffer64-push κs a x v met = not-seven _ (buffer.never-extended 64 (a .0 ∷ []) (record-of (a .1 .0) (now (a .1 .1 .0)))) (met .0)
+skein-buffer64-push κs a x v met = not-seven (buffer.never-extended _ _ _) (met .0)
 
 skein-buffer64-extend : NotSeven 3 skein-buffer64-extend-kinds.ps skein-buffer64-extend-kinds.r (λ κs x. x) skein-buffer64-extend-reads.Post
-skein-buffer64-extend κs a x v met = not-seven _ (by-step (extended 64 (now (a .0)) (record-of (a .1 .0) (now (a .1 .1 .0)))) _ (buffer.never-extended 64 (now (a .0)) (record-of (a .1 .0) (now (a .1 .1 .0))))) (met .0)
+skein-buffer64-extend κs a x v met = not-seven (by-step _ (buffer.never-extended _ _ _)) (met .0)
 
 skein-buffer64-from-slice : NotSeven 3 skein-buffer64-from-slice-kinds.ps skein-buffer64-from-slice-kinds.r (λ κs x. x) skein-buffer64-from-slice-reads.Post
-skein-buffer64-from-slice κs a x v met = not-seven _ (buffer.never-extended 64 (now (a .0)) (new 64)) (met .0)
+skein-buffer64-from-slice κs a x v met = not-seven (buffer.never-extended _ _ _) (met .0)
 
 skein-buffer64-unmarshal : NotSeven 3 skein-buffer64-unmarshal-kinds.ps skein-buffer64-unmarshal-kinds.r (λ κs x. x) skein-buffer64-unmarshal-reads.Post
-skein-buffer64-unmarshal κs a x v met = not-seven _ (buffer.never-prefix (now (a .0)) 64) (met .0)
+skein-buffer64-unmarshal κs a x v met = not-seven (buffer.never-prefix _ _) (met .0)
 
 skein-buffer1024-new : NotSeven 2 skein-buffer1024-new-kinds.ps skein-buffer1024-new-kinds.r (λ κs x. x) skein-buffer1024-new-reads.Post
-skein-buffer1024-new κs a x v met = not-seven _ refl (met .0)
+skein-buffer1024-new κs a x v met = not-seven by-gives (met .0)
 
 skein-buffer1024-wire-len : NotSeven 1 skein-buffer1024-wire-len-kinds.ps skein-buffer1024-wire-len-kinds.r (λ κs x. x) skein-buffer1024-wire-len-reads.Post
-skein-buffer1024-wire-len κs a x v met = not-seven _ (buffer.never-wire-length 1024 (a .0)) met
+skein-buffer1024-wire-len κs a x v met = not-seven (buffer.never-wire-length _ _) met
 
 skein-buffer1024-held : NotSeven 3 skein-buffer1024-held-kinds.ps skein-buffer1024-held-kinds.r (λ κs x. x) skein-buffer1024-held-reads.Post
-skein-buffer1024-held κs a x v met = not-seven _ (by-step (copied 1024 (record-of (a .0) (now (a .1 .0))) (now (a .1 .1 .0))) _ (buffer.never-emitted 1024 (a .0) (held (record-of (a .0) (now (a .1 .0)))) (now (a .1 .1 .0)))) (met .0)
+skein-buffer1024-held κs a x v met = not-seven (by-step _ (buffer.never-emitted _ _ _ _)) (met .0)
 
 skein-buffer1024-marshal : NotSeven 3 skein-buffer1024-marshal-kinds.ps skein-buffer1024-marshal-kinds.r (λ κs x. x) skein-buffer1024-marshal-reads.Post
-skein-buffer1024-marshal κs a x v met = not-seven _ (by-step (marshalled 1024 (record-of (a .0) (now (a .1 .0))) (now (a .1 .1 .0))) _ (buffer.never-emitted 1024 (a .0) (wire (record-of (a .0) (now (a .1 .0)))) (now (a .1 .1 .0)))) (met .0)
+skein-buffer1024-marshal κs a x v met = not-seven (by-step _ (buffer.never-emitted _ _ _ _)) (met .0)
 
 skein-buffer1024-eq : NotSeven 3 skein-buffer1024-eq-kinds.ps skein-buffer1024-eq-kinds.r (λ κs x. x) skein-buffer1024-eq-reads.Post
-skein-buffer1024-eq κs a x v met = not-seven _ (buffer.never-equal 1024 (record-of (a .0) (now (a .1 .0))) (record-of (a .1 .1 .0) (now (a .1 .1 .1 .0)))) met
+skein-buffer1024-eq κs a x v met = not-seven (buffer.never-equal _ _ _) met
 
 skein-buffer1024-push : NotSeven 2 skein-buffer1024-push-kinds.ps skein-buffer1024-push-kinds.r (λ κs x. x) skein-buffer1024-push-reads.Post
-skein-buffer1024-push κs a x v met = not-seven _ (buffer.never-extended 1024 (a .0 ∷ []) (record-of (a .1 .0) (now (a .1 .1 .0)))) (met .0)
+skein-buffer1024-push κs a x v met = not-seven (buffer.never-extended _ _ _) (met .0)
 
 skein-buffer1024-extend : NotSeven 3 skein-buffer1024-extend-kinds.ps skein-buffer1024-extend-kinds.r (λ κs x. x) skein-buffer1024-extend-reads.Post
-skein-buffer1024-extend κs a x v met = not-seven _ (by-step (extended 1024 (now (a .0)) (record-of (a .1 .0) (now (a .1 .1 .0)))) _ (buffer.never-extended 1024 (now (a .0)) (record-of (a .1 .0) (now (a .1 .1 .0))))) (met .0)
+skein-buffer1024-extend κs a x v met = not-seven (by-step _ (buffer.never-extended _ _ _)) (met .0)
 
 skein-buffer1024-from-slice : NotSeven 3 skein-buffer1024-from-slice-kinds.ps skein-buffer1024-from-slice-kinds.r (λ κs x. x) skein-buffer1024-from-slice-reads.Post
-skein-buffer1024-from-slice κs a x v met = not-seven _ (buffer.never-extended 1024 (now (a .0)) (new 1024)) (met .0)
+skein-buffer1024-from-slice κs a x v met = not-seven (buffer.never-extended _ _ _) (met .0)
 
 skein-buffer1024-unmarshal : NotSeven 3 skein-buffer1024-unmarshal-kinds.ps skein-buffer1024-unmarshal-kinds.r (λ κs x. x) skein-buffer1024-unmarshal-reads.Post
-skein-buffer1024-unmarshal κs a x v met = not-seven _ (buffer.never-prefix (now (a .0)) 1024) (met .0)
+skein-buffer1024-unmarshal κs a x v met = not-seven (buffer.never-prefix _ _) (met .0)
 
 skein-table-find : NotSeven 1 skein-table-find-kinds.ps skein-table-find-kinds.r (λ κs x. x) skein-table-find-reads.Post
-skein-table-find κs a x v met = not-seven _ (never-row dispatch (a .0)) met
+skein-table-find κs a x v met = not-seven (never-row dispatch (a .0)) met
 
 skein-table-known : NotSeven 1 skein-table-known-kinds.ps skein-table-known-kinds.r (λ κs x. x) skein-table-known-reads.Post
-skein-table-known κs a x v met = not-seven _ refl met
+skein-table-known κs a x v met = not-seven by-gives met
 
 skein-tag-known : NotSeven 1 skein-tag-known-kinds.ps skein-tag-known-kinds.r (λ κs x. x) skein-tag-known-reads.Post
-skein-tag-known κs a x v met = not-seven _ refl met
+skein-tag-known κs a x v met = not-seven by-gives met
 
 skein-frame-tag : NotSeven 2 skein-frame-tag-kinds.ps skein-frame-tag-kinds.r (λ κs x. x) skein-frame-tag-reads.Post
-skein-frame-tag κs a x v met = not-seven _ (frame.never-tag (now (a .0))) met
+skein-frame-tag κs a x v met = not-seven (frame.never-tag _) met
 
 skein-frame-size : NotSeven 2 skein-frame-size-kinds.ps skein-frame-size-kinds.r (λ κs x. x) skein-frame-size-reads.Post
-skein-frame-size κs a x v met = not-seven _ (frame.never-size (now (a .0))) met
+skein-frame-size κs a x v met = not-seven (frame.never-size _) met
 
 skein-frame-len : NotSeven 2 skein-frame-len-kinds.ps skein-frame-len-kinds.r (λ κs x. x) skein-frame-len-reads.Post
-skein-frame-len κs a x v met = not-seven _ refl met
+skein-frame-len κs a x v met = not-seven by-gives met
 
 skein-frame-is-empty : NotSeven 2 skein-frame-is-empty-kinds.ps skein-frame-is-empty-kinds.r (λ κs x. x) skein-frame-is-empty-reads.Post
-skein-frame-is-empty κs a x v met = not-seven _ refl met
+skein-frame-is-empty κs a x v met = not-seven by-gives met
 
 skein-frame-set-tag : NotSeven 2 skein-frame-set-tag-kinds.ps skein-frame-set-tag-kinds.r (λ κs x. x) skein-frame-set-tag-reads.Post
-skein-frame-set-tag κs a x v met = not-seven _ (by-done (setTag (a .0) (now (a .1 .0))) (frame.never-set-tag (a .0) (now (a .1 .0)))) (met .0)
+skein-frame-set-tag κs a x v met = not-seven (by-done (frame.never-set-tag _ _)) (met .0)
 
 skein-command-cast : NotSeven 2 skein-command-cast-kinds.ps skein-command-cast-kinds.r (λ κs x. x) skein-command-cast-reads.Post
-skein-command-cast κs a x v met = not-seven _ (by-rules (a .0) (λ (book : Rulebook). all.whole (now (a .1 .0)) (castCommand book (now (a .1 .0)))) (λ book. by-step (castCommand book (now (a .1 .0))) _ (frame.never-cast-command book (now (a .1 .0))))) met
+skein-command-cast κs a x v met = not-seven (by-rules (a .0) (λ book. by-whole (now (a .1 .0)) (frame.never-cast-command book (now (a .1 .0))))) met
 
 skein-command-handles : NotSeven 2 skein-command-handles-kinds.ps skein-command-handles-kinds.r (λ κs x. x) skein-command-handles-reads.Post
-skein-command-handles κs a x v met = not-seven _ (by-rules (a .0) (λ (book : Rulebook). handlesRange book (now (a .1 .0))) (λ book. frame.never-handles-range book (now (a .1 .0)))) met
+skein-command-handles κs a x v met = not-seven (by-rules (a .0) (λ book. frame.never-handles-range book (now (a .1 .0)))) met
 
 skein-command-auth-area : NotSeven 2 skein-command-auth-area-kinds.ps skein-command-auth-area-kinds.r (λ κs x. x) skein-command-auth-area-reads.Post
-skein-command-auth-area κs a x v met = not-seven _ (by-rules (a .0) (λ (book : Rulebook). authRange book (now (a .1 .0))) (λ book. frame.never-auth-range book (now (a .1 .0)))) met
+skein-command-auth-area κs a x v met = not-seven (by-rules (a .0) (λ book. frame.never-auth-range book (now (a .1 .0)))) met
 
 skein-command-parameters : NotSeven 2 skein-command-parameters-kinds.ps skein-command-parameters-kinds.r (λ κs x. x) skein-command-parameters-reads.Post
-skein-command-parameters κs a x v met = not-seven _ (by-rules (a .0) (λ (book : Rulebook). parametersRange book (now (a .1 .0))) (λ book. frame.never-parameters-range book (now (a .1 .0)))) met
+skein-command-parameters κs a x v met = not-seven (by-rules (a .0) (λ book. frame.never-parameters-range book (now (a .1 .0)))) met
 
 skein-command-cast-prefix : NotSeven 2 skein-command-cast-prefix-kinds.ps skein-command-cast-prefix-kinds.r (λ κs x. x) skein-command-cast-prefix-reads.Post
-skein-command-cast-prefix κs a x v met = not-seven _ (by-rules (a .0) (λ (book : Rulebook). upTo (castCommandPrefix book (now (a .1 .0)))) (λ book. by-step (castCommandPrefix book (now (a .1 .0))) _ (frame.never-cast-command-prefix book (now (a .1 .0))))) met
+skein-command-cast-prefix κs a x v met = not-seven (by-rules (a .0) (λ book. by-up-to (frame.never-cast-command-prefix book (now (a .1 .0))))) met
 
 skein-command-validate : NotSeven 2 skein-command-validate-kinds.ps skein-command-validate-kinds.r (λ κs x. x) skein-command-validate-reads.Post
-skein-command-validate κs a x v met = not-seven _ (by-rules (a .0) (λ (book : Rulebook). done (readCommand book (now (a .1 .0)))) (λ book. by-done (readCommand book (now (a .1 .0))) (frame.never-command book (now (a .1 .0))))) met
+skein-command-validate κs a x v met = not-seven (by-rules (a .0) (λ book. by-done (frame.never-command book (now (a .1 .0))))) met
 
 skein-command-cc : NotSeven 2 skein-command-cc-kinds.ps skein-command-cc-kinds.r (λ κs x. x) skein-command-cc-reads.Post
-skein-command-cc κs a x v met = not-seven _ (by-rules (a .0) (λ (book : Rulebook). readCc book (now (a .1 .0))) (λ book. frame.never-cc book (now (a .1 .0)))) met
+skein-command-cc κs a x v met = not-seven (by-rules (a .0) (λ book. frame.never-cc book (now (a .1 .0)))) met
 
 skein-command-set-cc : NotSeven 2 skein-command-set-cc-kinds.ps skein-command-set-cc-kinds.r (λ κs x. x) skein-command-set-cc-reads.Post
-skein-command-set-cc κs a x v met = not-seven _ (by-rules (a .0) (λ (book : Rulebook). done (setCc book (a .1 .0) (now (a .1 .1 .0)))) (λ book. by-done (setCc book (a .1 .0) (now (a .1 .1 .0))) (frame.never-set-cc book (a .1 .0) (now (a .1 .1 .0))))) (met .0)
+skein-command-set-cc κs a x v met = not-seven (by-rules (a .0) (λ book. by-done (frame.never-set-cc book (a .1 .0) (now (a .1 .1 .0))))) (met .0)
 
 skein-command-parts : NotSeven 2 skein-command-parts-kinds.ps skein-command-parts-kinds.r (λ κs x. x .refusal) skein-command-parts-reads.Post
-skein-command-parts κs a x v met = not-seven _ (by-rules (a .0) (λ (book : Rulebook). commandByValue (now (a .1 .0)) (readCommand book (now (a .1 .0)))) (λ book. by-step (readCommand book (now (a .1 .0))) _ (frame.never-command book (now (a .1 .0))))) (met .0)
+skein-command-parts κs a x v met = not-seven (by-rules (a .0) (λ book. by-command (now (a .1 .0)) (frame.never-command book (now (a .1 .0))))) (met .0)
 
 skein-response-cast : NotSeven 2 skein-response-cast-kinds.ps skein-response-cast-kinds.r (λ κs x. x) skein-response-cast-reads.Post
-skein-response-cast κs a x v met = not-seven _ (by-rules (a .0) (λ (book : Rulebook). all.whole (now (a .1 .0)) (castResponse book (now (a .1 .0)))) (λ book. by-step (castResponse book (now (a .1 .0))) _ (frame.never-cast-response book (now (a .1 .0))))) met
+skein-response-cast κs a x v met = not-seven (by-rules (a .0) (λ book. by-whole (now (a .1 .0)) (frame.never-cast-response book (now (a .1 .0))))) met
 
 skein-response-cast-prefix : NotSeven 2 skein-response-cast-prefix-kinds.ps skein-response-cast-prefix-kinds.r (λ κs x. x) skein-response-cast-prefix-reads.Post
-skein-response-cast-prefix κs a x v met = not-seven _ (by-rules (a .0) (λ (book : Rulebook). upTo (castResponsePrefix book (now (a .1 .0)))) (λ book. by-step (castResponsePrefix book (now (a .1 .0))) _ (frame.never-cast-response-prefix book (now (a .1 .0))))) met
+skein-response-cast-prefix κs a x v met = not-seven (by-rules (a .0) (λ book. by-up-to (frame.never-cast-response-prefix book (now (a .1 .0))))) met
 
 skein-response-rc : NotSeven 2 skein-response-rc-kinds.ps skein-response-rc-kinds.r (λ κs x. x) skein-response-rc-reads.Post
-skein-response-rc κs a x v met = not-seven _ (by-rules (a .0) (λ (book : Rulebook). readRc book (now (a .1 .0))) (λ book. frame.never-rc book (now (a .1 .0)))) met
+skein-response-rc κs a x v met = not-seven (by-rules (a .0) (λ book. frame.never-rc book (now (a .1 .0)))) met
 
 skein-response-body : NotSeven 2 skein-response-body-kinds.ps skein-response-body-kinds.r (λ κs x. x) skein-response-body-reads.Post
-skein-response-body κs a x v met = not-seven _ (frame.never-body (now (a .0))) met
+skein-response-body κs a x v met = not-seven (frame.never-body _) met
 
 skein-response-validate : NotSeven 2 skein-response-validate-kinds.ps skein-response-validate-kinds.r (λ κs x. x) skein-response-validate-reads.Post
-skein-response-validate κs a x v met = not-seven _ (by-rules (a .0) (λ (book : Rulebook). done (readResponse book (a .1 .0) (now (a .1 .1 .0)))) (λ book. by-done (readResponse book (a .1 .0) (now (a .1 .1 .0))) (frame.never-response book (now (a .1 .1 .0)) (a .1 .0)))) met
+skein-response-validate κs a x v met = not-seven (by-rules (a .0) (λ book. by-done (frame.never-response book (now (a .1 .1 .0)) (a .1 .0)))) met
 
 skein-response-set-rc : NotSeven 2 skein-response-set-rc-kinds.ps skein-response-set-rc-kinds.r (λ κs x. x) skein-response-set-rc-reads.Post
-skein-response-set-rc κs a x v met = not-seven _ (by-rules (a .0) (λ (book : Rulebook). done (setRc book (a .1 .0) (now (a .1 .1 .0)))) (λ book. by-done (setRc book (a .1 .0) (now (a .1 .1 .0))) (frame.never-set-rc book (a .1 .0) (now (a .1 .1 .0))))) (met .0)
+skein-response-set-rc κs a x v met = not-seven (by-rules (a .0) (λ book. by-done (frame.never-set-rc book (a .1 .0) (now (a .1 .1 .0))))) (met .0)
 
 skein-response-parts : NotSeven 2 skein-response-parts-kinds.ps skein-response-parts-kinds.r (λ κs x. x .refusal) skein-response-parts-reads.Post
-skein-response-parts κs a x v met = not-seven _ (by-rules (a .0) (λ (book : Rulebook). responseByValue (now (a .1 .1 .0)) (readResponse book (a .1 .0) (now (a .1 .1 .0)))) (λ book. by-step (readResponse book (a .1 .0) (now (a .1 .1 .0))) _ (frame.never-response book (now (a .1 .1 .0)) (a .1 .0)))) (met .0)
+skein-response-parts κs a x v met = not-seven (by-rules (a .0) (λ book. by-response (now (a .1 .1 .0)) (frame.never-response book (now (a .1 .1 .0)) (a .1 .0)))) (met .0)
 
 skein-keeper-new : NotSeven 2 skein-keeper-new-kinds.ps skein-keeper-new-kinds.r (λ κs x. x) skein-keeper-new-reads.Post
-skein-keeper-new κs a x v met = not-seven _ refl (met .0)
+skein-keeper-new κs a x v met = not-seven by-gives (met .0)
 
 skein-keeper-open : NotSeven 3 skein-keeper-open-kinds.ps skein-keeper-open-kinds.r (λ κs x. x) skein-keeper-open-reads.Post
-skein-keeper-open κs a x v met = not-seven _ (by-done (keeping.opened (a .0) (now (a .1 .0)) (state.held (now (a .1 .1 .0)))) (keeper.never-opened (a .0) (now (a .1 .0)) (state.held (now (a .1 .1 .0))))) (met .0)
+skein-keeper-open κs a x v met = not-seven (by-done (keeper.never-opened _ _ _)) (met .0)
 
 skein-keeper-answer : NotSeven 4 skein-keeper-answer-kinds.ps skein-keeper-answer-kinds.r (λ κs x. x) skein-keeper-answer-reads.Post
-skein-keeper-answer κs a x v met = not-seven _ (by-done (keeping.answered (now (a .0)) (now (a .1 .0)) (state.held (now (a .1 .1 .0)))) (keeper.never-answered (now (a .0)) (now (a .1 .0)) (state.held (now (a .1 .1 .0))))) (met .0)
+skein-keeper-answer κs a x v met = not-seven (by-done (keeper.never-answered _ _ _)) (met .0)
 
 skein-keeper-close : NotSeven 2 skein-keeper-close-kinds.ps skein-keeper-close-kinds.r (λ κs x. x) skein-keeper-close-reads.Post
-skein-keeper-close κs a x v met = not-seven _ (by-done (keeping.closed (a .0) (state.held (now (a .1 .0)))) (keeper.never-closed (a .0) (state.held (now (a .1 .0))))) (met .0)
+skein-keeper-close κs a x v met = not-seven (by-done (keeper.never-closed _ _)) (met .0)
 
 skein-keeper-ask : NotSeven 2 skein-keeper-ask-kinds.ps skein-keeper-ask-kinds.r (λ κs x. x) skein-keeper-ask-reads.Post
-skein-keeper-ask κs a x v met = not-seven _ (keeper.never-asked (a .0) (now (a .1 .0))) met
+skein-keeper-ask κs a x v met = not-seven (keeper.never-asked _ _) met
 
 skein-keeper-len : NotSeven 2 skein-keeper-len-kinds.ps skein-keeper-len-kinds.r (λ κs x. x) skein-keeper-len-reads.Post
-skein-keeper-len κs a x v met = not-seven _ refl met
+skein-keeper-len κs a x v met = not-seven by-gives met

@@ -11,7 +11,7 @@ use lib.Dec.{eqb, leb, ltb}
 use lib.ListN.{length, getD}
 use Rattle.base.specs.Said.{Said, gives, refuses, Never, needs, then, given}
 use Rattle.base.proofs.Checks.{stops, gives≢refuses, refuses-injective}
-use Rattle.base.proofs.Never.{by-needs, by-then, by-step, not-by}
+use Rattle.base.proofs.Never.{by-gives, by-needs, by-then, by-step, not-by}
 use Rattle.rc.specs.Code.{readCode}
 use Rattle.table.specs.Table.{rowFor}
 use Rattle.table.specs.declared.row.Row.{Row}
@@ -25,7 +25,6 @@ use Rattle.marshal.specs.Handed.{Handed, tagFor}
 use Rattle.marshal.specs.Write.{
   capped,
   fieldThere,
-  sessionThere,
   sessionsThere,
   totalSize,
   fitted,
@@ -64,14 +63,13 @@ passed t why rest {w} other e = elim (needs-refuses t why rest e) [ inl p ↦ p 
 
 -- no session is refused by 7
 never-there : (limit len : ℕ) (f : Field) → Never 7 (fieldThere limit len f)
-never-there limit len f = by-needs (leb (f .size) limit) _ _ refl (by-needs (leb (f .at + f .size) len) _ (gives tt) refl refl)
+never-there limit len f = by-needs (leb (f .size) limit) _ refl (by-needs (leb (f .at + f .size) len) _ refl by-gives)
 
 never-sessions : (limit len : ℕ) (es : List Session) → Never 7 (sessionsThere limit len es)
 unfolding sessionsThere
-never-sessions limit len [] = refl
+never-sessions limit len [] = by-gives
 never-sessions limit len (e ∷ es) =
-    by-then (sessionThere limit len e) _
-    (by-then (fieldThere limit len (e .nonce)) _ (never-there limit len (e .nonce)) (λ nonce. never-there limit len (e .hmac)))
+    by-then (by-then (never-there limit len (e .nonce)) (λ nonce. never-there limit len (e .hmac)))
     (λ first. never-sessions limit len es)
 
 -- ---- behind the handles
@@ -91,7 +89,7 @@ module _ (limit width tag handles : ℕ) (h : Handed) (room n : ℕ) where
       let low = leb-true (4 * handles) (length (h .handles)) (few .0) in
       let high = leb-true (length (h .handles)) (4 * handles) (many .0) in
       elim (then-refuses (sessionsThere limit (length (h .lent)) (entriesOf (h .sessions))) _ (many .1)) [
-        | inr missing ↦ absurd (not-by (sessionsThere limit (length (h .lent)) (entriesOf (h .sessions))) (never-sessions limit (length (h .lent)) (entriesOf (h .sessions))) missing refl)
+        | inr missing ↦ absurd (not-by (never-sessions limit (length (h .lent)) (entriesOf (h .sessions))) missing refl)
         | inl p ↦ elim (needs-refuses (leb (totalSize width tag h) 4294967295) _ (fitted (totalSize width tag h) room) (p .2)) [
           | inl q ↦ absurd (gives≢refuses (passed (leb (totalSize width tag h) room) _ (gives (totalSize width tag h)) (λ q. omega arith) (q .1) .1))
           | inr large ↦ record {
@@ -127,7 +125,7 @@ module _ (book : Rulebook) (tag code : ℕ) (h : Handed) (room n : ℕ) where
       let agree = passed (Bool·beq (eqb tag sessions) (ltb 0 (h .sessions .count))) _ _ (λ q. omega arith) (two .1) in
       let few = passed (leb (h .sessions .count) 3) _ _ (λ q. omega arith) (agree .1) in
       elim (then-refuses (rowFor (book .rows) code) _ (few .1)) [
-        | inr none ↦ absurd (not-by (rowFor (book .rows) code) (never-row (book .rows) code) none refl)
+        | inr none ↦ absurd (not-by (never-row (book .rows) code) none refl)
         | inl found ↦ elim (then-refuses (judged (book .longest) 4 tag (found .0 .handles) h room) _ (found .2)) [
           | inl p ↦ absurd (gives≢refuses (p .2))
           | inr large ↦ record {
@@ -160,15 +158,15 @@ pub record ResponseTooLarge (book : Rulebook) (asked : Bool) (cc code : ℕ) (h 
 
 module _ (code count room : ℕ) where
   never-bare : (asked : Bool) → Never 7 (writeBare asked code room)
-  never-bare asked = by-step (fitted 10 room) _ (by-needs (leb 10 room) _ (gives 10) refl refl)
+  never-bare asked = by-step _ (by-needs (leb 10 room) _ refl by-gives)
 
   never-error : Never 7 (writeError code count room)
   unfolding writeError
-  never-error = by-needs (eqb count 0) _ (writeBare false code room) refl (never-bare false)
+  never-error = by-needs (eqb count 0) _ refl (never-bare false)
 
   never-bad-tag : Never 7 (writeBadTag code count room)
   unfolding writeBadTag
-  never-bad-tag = by-needs (eqb code 0 || eqb count 0) _ _ refl (by-needs (eqb code badTag) _ (writeBare true code room) refl (never-bare true))
+  never-bad-tag = by-needs (eqb code 0 || eqb count 0) _ refl (by-needs (eqb code badTag) _ refl (never-bare true))
 
 module _ (book : Rulebook) (asked : Bool) (cc code : ℕ) (h : Handed) (room n : ℕ) where
   response-is-too-large : writeResponse book asked cc code h room ≡ refuses (7 ∷ 0 ∷ n ∷ []) → ResponseTooLarge book asked cc code h n
@@ -176,13 +174,13 @@ module _ (book : Rulebook) (asked : Bool) (cc code : ℕ) (h : Handed) (room n :
   response-is-too-large e =
       let few = passed (leb (h .sessions .count) 3) _ _ (λ q. omega arith) e in
       elim (then-refuses (rowFor (book .rows) cc) _ (few .1)) [
-        | inr none ↦ absurd (not-by (rowFor (book .rows) cc) (never-row (book .rows) cc) none refl)
+        | inr none ↦ absurd (not-by (never-row (book .rows) cc) none refl)
         | inl found ↦
             let reads = passed (given (readCode code) || (asked && eqb code badTag)) _ _ (λ q. omega arith) (found .2) in
             elim (cond-refuses asked (writeBadTag code (h .sessions .count) room) _ (reads .1)) [
-              | inl is ↦ absurd (not-by (writeBadTag code (h .sessions .count) room) (never-bad-tag code (h .sessions .count) room) (is .1) refl)
+              | inl is ↦ absurd (not-by (never-bad-tag code (h .sessions .count) room) (is .1) refl)
               | inr not ↦ elim (cond-refuses (eqb code 0) (writeSuccess book (found .0 .responses) h room) (writeError code (h .sessions .count) room) (not .1)) [
-                | inr error ↦ absurd (not-by (writeError code (h .sessions .count) room) (never-error code (h .sessions .count) room) (error .1) refl)
+                | inr error ↦ absurd (not-by (never-error code (h .sessions .count) room) (error .1) refl)
                 | inl success ↦ elim (then-refuses (judged (book .longest) 0 (tagFor (h .sessions .count)) (found .0 .responses) h room) _ (success .1)) [
                   | inl p ↦ absurd (gives≢refuses (p .2))
                   | inr large ↦ record {

@@ -6,6 +6,7 @@ use Prim.Native.Nat.{ℕ}
 use lib.Dec.{eqb}
 use lib.ListN.{getD}
 use Rattle.base.specs.Said.{Said, gives, refuses, Never}
+use Rattle.base.proofs.Never.{by-gives, by-refuses}
 use Rattle.rc.specs.declared.code.Code.{Code}
 use Rattle.rc.specs.Code.{readCode}
 use Rattle.rc.proofs.Laws.{refusals}
@@ -14,5 +15,5 @@ pub never-code : (value : ℕ) → Never 7 (readCode value)
 never-code value = by (readCode value) refl
   where
     by : (said : Said Code) → readCode value ≡ said → Never 7 said
-    by (gives c) e = refl
-    by (refuses why) e = ap (λ (l : List ℕ). eqb (getD l 0 0) 7) (refusals value why e)
+    by (gives c) e = by-gives
+    by (refuses why) e = by-refuses why (ap (λ (l : List ℕ). eqb (getD l 0 0) 7) (refusals value why e))

@@ -4,11 +4,11 @@ use mathlib.Core.Path.{refl}
 use mathlib.Core.List.{List, [], _∷_}
 use Prim.Native.Nat.{ℕ}
 use lib.Dec.{eqb}
-use Rattle.base.specs.Said.{gives, Never}
-use Rattle.base.proofs.Never.{by-cond}
+use Rattle.base.specs.Said.{Never}
+use Rattle.base.proofs.Never.{by-cond, by-gives, by-refuses}
 use Rattle.table.specs.declared.row.Row.{Row}
 use Rattle.table.specs.Table.{rowFor}
 
 pub never-row : (rows : List Row) (code : ℕ) → Never 7 (rowFor rows code)
-never-row [] code = refl
-never-row (r ∷ rows) code = by-cond (eqb code (r .code)) (gives r) (rowFor rows code) refl (never-row rows code)
+never-row [] code = by-refuses _ refl
+never-row (r ∷ rows) code = by-cond (eqb code (r .code)) by-gives (never-row rows code)
