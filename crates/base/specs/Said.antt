@@ -37,7 +37,7 @@ abbrev pub after : {A : Type 0} → A → Said A → A
 after old (gives new) = new
 after old (refuses why) = old
 
--- whether it is a refusal by a number, and an answer that never is
+-- whether it is a refusal by a number, and that an answer never is (document 02, W7)
 abbrev pub refusesBy : {A : Type 0} → ℕ → Said A → Bool
 refusesBy n (gives a) = false
 refusesBy n (refuses why) = eqb (getD why 0 0) n

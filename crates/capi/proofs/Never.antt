@@ -5,7 +5,6 @@ use mathlib.Core.Path.{_≡_, refl, sym, _∙_}
 use mathlib.Core.List.{List, [], _∷_}
 use Prim.Native.Nat.{ℕ}
 use native.Mathlib.Omega.{arith}
-use borrow.Author.Tests.{eqb-false}
 use borrow.Fn.Kinds.{PK, RK, Out, Dens, resT, endedOf}
 use contract.Lifetimes.{Lfts}
 use denote.Ref.{now}
@@ -13,7 +12,7 @@ use denote.Triple.Clauses.{Lasts, atExit}
 use lib.Dec.{eqb}
 use Rattle.base.specs.Parts.{upTo}
 use Rattle.base.specs.Said.{Said, gives, refuses, Never}
-use Rattle.base.proofs.Never.{by-gives, by-refuses, by-cond, by-done, by-then, by-step, never-read, never-written}
+use Rattle.base.proofs.Never.{by-gives, by-refuses, by-cond, by-done, by-then, by-step, not-by, never-read, never-written}
 use Rattle.buffer.proofs.Never as buffer
 use Rattle.frame.specs.Answer.{whole, commandByValue, responseByValue}
 use Rattle.frame.specs.Command.{Division}
@@ -159,7 +158,7 @@ NotSeven n ps r number Post =
 not-returned : {A : Type 0} (said : Said A) → Never 7 said → returned said ≡ 7 → ⊥
 not-returned (gives a) p e = omega arith
 not-returned (refuses []) p e = omega arith
-not-returned (refuses (n ∷ fields)) p e = eqb-false n 7 (p .other) e
+not-returned (refuses (n ∷ fields)) p e = not-by p refl e
 
 not-seven : {A : Type 0} {of : A → List ℕ} {said : Said A} {old later : List ℕ} {r : ℕ} → Never 7 said → Reports of said old later r → r ≡ 7 → ⊥
 not-seven p told e = not-returned _ p (sym (told .status) ∙ e)

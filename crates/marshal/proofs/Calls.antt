@@ -12,6 +12,7 @@ use Rattle.base.specs.declared.answer.Total.the-variants as total
 use Rattle.base.specs.declared.error.WriteError.{WriteError}
 use Rattle.base.specs.Answer.{saidTotal}
 use Rattle.base.specs.Bytes.{AreBytes}
+use Rattle.base.specs.Error.{writerNumbered}
 use Rattle.base.specs.Said.{Said, gives, refuses}
 use Rattle.base.proofs.Answers.{saidTotal-injective}
 use Rattle.base.proofs.Checks.{gives-injective, refuses-injective, gives≢refuses}
@@ -61,8 +62,8 @@ module _ (room : List ℕ) (x : Total) (later : List ℕ) (said : Said (List ℕ
   pub is-refused : {why : List ℕ} → said ≡ refuses why → Refused room x later why
   is-refused e = (answer ∙ ap counted e, bytes ∙ ap (roomAfter room) e)
 
-  pub refused-exactly : {why : List ℕ} → (saidTotal x ≡ refuses why) ↔ (said ≡ refuses why)
-  refused-exactly = ((λ e. counted-refuses said (sym answer ∙ e)), (λ e. is-refused e .0))
+  pub refused-exactly : (e : WriteError) → (x ≡ total.Refused e) ↔ (said ≡ refuses (writerNumbered e))
+  refused-exactly e = ((λ is. counted-refuses said (sym answer ∙ ap saidTotal is)), (λ no. saidTotal-injective x (total.Refused e) (is-refused no .0)))
 
   module _ {D : Type 0} (limit : ℕ) (read : List ℕ → Said D) (parts : List ℕ → D → Frame) (layout : Frame → List ℕ) (Formed : Frame → Type 0)
       (From : List ℕ → D → Type 0) (Bare : D → Type 0) (h : Handed) (code : ℕ) (asked : Frame) where

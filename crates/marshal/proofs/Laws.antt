@@ -15,6 +15,8 @@ use lib.Dec.{eqb}
 use lib.ListN.{length, take, drop}
 use denote.Ref.{now}
 use Rattle.base.specs.declared.answer.Total.{Total}
+use Rattle.base.specs.declared.answer.Total.the-variants as total
+use Rattle.base.specs.declared.error.WriteError.the-variants.{IntegerTooLarge}
 use Rattle.base.specs.Answer.{saidTotal}
 use Rattle.base.specs.Bytes.{AreBytes}
 use Rattle.base.specs.Members.{isIn}
@@ -149,7 +151,7 @@ module _ (book : Rulebook) (tag code : ℕ) (h : Handed) (room : List ℕ) (x : 
       Writes (book .longest) (λ s. commandByValue s (readCommand book s)) commandParts layoutCommand (CommandFormed book)
       CommandFrom (λ c. Bare (c .tag .0) (c .entries .count)) h code (commandFrame tag code h) room x later
       × ((s : List ℕ) (c : Command) → CommandFrom s c → Bare (c .tag .0) (c .entries .count) → Refused room x later (3 ∷ 0 ∷ 0x8002 ∷ []))
-      × ((n : ℕ) → (saidTotal x ≡ refuses (7 ∷ 0 ∷ n ∷ [])) ↔ CommandTooLarge book tag code h n)
+      × ((n : ℕ) → (x ≡ total.Refused (IntegerTooLarge 0 n)) ↔ CommandTooLarge book tag code h n)
 
   abbrev commandSaid : Said (List ℕ)
   commandSaid = writeCommand book tag code h (length room)
@@ -170,7 +172,7 @@ module _ (book : Rulebook) (tag code : ℕ) (h : Handed) (room : List ℕ) (x : 
         (λ s c from bare. is-refused room x later commandSaid answer bytes
             (back s c from ∙ command.command-empty book s c (length room) (bare .0) (bare .1))),
         (λ n.
-            let told = refused-exactly room x later commandSaid answer bytes in
+            let told = refused-exactly room x later commandSaid answer bytes (IntegerTooLarge 0 n) in
             let too-large = large.command-too-large book tag code h (length room) n in
             ((λ e. too-large .0 (told .0 e)), (λ e. told .1 (too-large .1 e)))),
       )
@@ -194,7 +196,7 @@ module _ (book : Rulebook) (asks : Bool) (cc code : ℕ) (h : Handed) (room : Li
       × ((s : List ℕ) → AreBytes s → (r : Response) → responseByValue s (readResponse book cc s) ≡ gives r → ResponseFrom s r
       → Bare (r .tag .0) (r .entries .count) → length s - 4 ≤ length room
       → Written room x later (shorter s r) × (length (shorter s r) + 4 ≡ length s))
-      × ((n : ℕ) → (saidTotal x ≡ refuses (7 ∷ 0 ∷ n ∷ [])) ↔ ResponseTooLarge book asks cc code h n)
+      × ((n : ℕ) → (x ≡ total.Refused (IntegerTooLarge 0 n)) ↔ ResponseTooLarge book asks cc code h n)
 
   abbrev responseSaid : Said (List ℕ)
   responseSaid = writeResponse book asks cc code h (length room)
@@ -215,7 +217,7 @@ module _ (book : Rulebook) (asks : Bool) (cc code : ℕ) (h : Handed) (room : Li
             let short = response.response-shorter book cc s are r read (length room) enough (bare .0) (bare .1) in
             (is-written room x later responseSaid answer bytes (back s r from ∙ short .0), short .1)),
         (λ n.
-            let told = refused-exactly room x later responseSaid answer bytes in
+            let told = refused-exactly room x later responseSaid answer bytes (IntegerTooLarge 0 n) in
             let too-large = large.response-too-large book asks cc code h (length room) n in
             ((λ e. too-large .0 (told .0 e)), (λ e. told .1 (too-large .1 e)))),
       )
