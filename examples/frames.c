@@ -16,6 +16,13 @@ static const uint8_t bad_tag[10] = {0x00, 0xC4, 0, 0, 0, 0x0A, 0, 0, 0, 0x1E};
 
 static int faults;
 
+/* The words for an area, by the numbers of enum skein_area. A writer has none. */
+static const char *const areas[] = {"no", "header", "handles", "authorization", "parameters"};
+
+static void say_place(const char *name, const uint64_t out[SKEIN_NUMBERS]) {
+    printf("refused: %s at %llu, %s area: ", name, (unsigned long long)out[SKEIN_OFFSET], areas[out[SKEIN_AREA]]);
+}
+
 /* Why a call refused. One that reads never gives SKEIN_INTEGER_TOO_LARGE, so there is no case for it. */
 static void say_refusal(uint32_t number, const uint64_t out[SKEIN_NUMBERS]) {
     unsigned long long second = out[SKEIN_SECOND], third = out[SKEIN_THIRD];
@@ -32,7 +39,7 @@ static void say_refusal(uint32_t number, const uint64_t out[SKEIN_NUMBERS]) {
     case SKEIN_NO_SUCH_KIND: name = "a kind that is none"; break;
     case SKEIN_NO_SUCH_RULES: name = "rules that are none"; break;
     }
-    printf("refused: %s at %llu, ", name, (unsigned long long)out[SKEIN_OFFSET]);
+    say_place(name, out);
     switch (number) {
     case SKEIN_UNEXPECTED_END:
     case SKEIN_BUFFER_OVERFLOW: printf("%llu needed and %llu there\n", second, third); break;
@@ -48,8 +55,8 @@ static void say_write_refusal(uint32_t number, const uint64_t out[SKEIN_NUMBERS]
         say_refusal(number, out);
         return;
     }
-    printf("refused: IntegerTooLarge at %llu, %llu\n", (unsigned long long)out[SKEIN_OFFSET],
-           (unsigned long long)out[SKEIN_SECOND]);
+    say_place("IntegerTooLarge", out);
+    printf("%llu\n", (unsigned long long)out[SKEIN_SECOND]);
 }
 
 static void say_area(const char *name, struct skein_span area) {
@@ -228,6 +235,15 @@ int main(void) {
     read_command(NULL, 0);
     /* the response read as one to a command that is none */
     read_response(SKEIN_RULES_STANDARD, 0, response, sizeof response);
+
+    /* cut, with a size field that says so: the command in its handle and in its session, the response in its parameters */
+    shorter[5] = 12;
+    read_command(shorter, 12);
+    shorter[5] = 26;
+    read_command(shorter, 26);
+    memcpy(shorter, response, 16);
+    shorter[5] = 16;
+    read_response(SKEIN_RULES_STANDARD, 0x17B, shorter, 16);
 
     /* the answer to a bad tag by the standard rules and by the Rust's, and a number that names no rules of this call */
     read_response(SKEIN_RULES_STANDARD, 0x144, bad_tag, sizeof bad_tag);

@@ -24,6 +24,9 @@ struct behind_a_byte {
 
 static int faults;
 
+/* The words for an area, by the numbers of enum skein_area. */
+static const char *const areas[] = {"no", "header", "handles", "authorization", "parameters"};
+
 static void say_refusal(uint32_t number, const uint64_t out[SKEIN_NUMBERS]) {
     switch (number) {
     case SKEIN_HANDLE_REPEATED: printf("refused: a command names an open session twice\n"); break;
@@ -31,7 +34,7 @@ static void say_refusal(uint32_t number, const uint64_t out[SKEIN_NUMBERS]) {
     case SKEIN_ALREADY_OPEN: printf("refused: the session is open already\n"); break;
     case SKEIN_ALL_OPEN: printf("refused: all %d places are taken\n", SKEIN_KEEPER_PLACES); break;
     case SKEIN_NOT_OPEN: printf("refused: the session is not open\n"); break;
-    default: printf("refused: %u at byte %u\n", (unsigned)number, (unsigned)out[SKEIN_OFFSET]);
+    default: printf("refused: %u at byte %u, %s area\n", (unsigned)number, (unsigned)out[SKEIN_OFFSET], areas[out[SKEIN_AREA]]);
     }
 }
 

@@ -6,11 +6,12 @@
    that number.
 
    THE ARRAY has fixed places, see enum skein_place. An answer's numbers go to the places 0 to 3, and the others stay as they
-   were. A refusal's fields go to the places 4 to 6, as many as it has, and the others stay as they were: after a refusal
-   out[0] is what stood there before. Below, `gives` names what goes to the places from 0 on, in this order.
+   were. A refusal's fields go to the places 4 to 6, as many as it has, and its area, for every refusal, to the place 7; the
+   others stay as they were: after a refusal out[0] is what stood there before. Below, `gives` names what goes to the places
+   from 0 on, in this order.
 
-   A REFUSED CALL changes nothing that was lent but those fields. Below, a refusal is written No.(fields), as 1(0,10,len): its
-   number, then its fields. A call that names no refusal always answers.
+   A REFUSED CALL changes nothing that was lent but those places. Below, a refusal is written No.(fields), as 1(0,10,len): its
+   number, then its fields; enum skein_area tells which area it has. A call that names no refusal always answers.
 
    THE RULES. Every call that judges a frame takes their number first, see enum skein_rules. Name SKEIN_RULES_STANDARD, or
    SKEIN_RULES_RUST to answer as the provisioning tools that still run tpm2-protocol do. A number that names no rules of the
@@ -45,7 +46,7 @@ extern "C" {
 #endif
 
 /* Rises where a call or a struct changes its form or its meaning. */
-#define SKEIN_VERSION 3
+#define SKEIN_VERSION 4
 
 /* ---- numbers and places */
 
@@ -75,6 +76,22 @@ enum skein_refusal {
     SKEIN_NO_SUCH_RULES = 101    /* 0, rules */
 };
 
+/* The area of the frame that a refusal is about, and the numbers that it comes with. It is
+   - the header where the bytes are not as many as its size field says, for a tag, for a code, also that of the command which is
+     answered, for bytes behind the header of an error, and in every call that reads or sets one field of the header;
+   - the authorization area for all that is wrong in its entries;
+   - else the part that is short. The four bytes of a size are of what they size: of the authorization area in a command, of
+     the parameters in a response.
+   It is none in the calls without a frame: on codes, tags and the table, on fields at a place, on TPM2Bs and fixed buffers, and
+   on a keeper but for skein_keeper_answer. */
+enum skein_area {
+    SKEIN_AREA_NONE = 0,          /* of writers of frames, of numbers above 9, and of calls without a frame */
+    SKEIN_AREA_HEADER = 1,        /* 1, 2, 3, 4, and of a response 5 */
+    SKEIN_AREA_HANDLES = 2,       /* 1 */
+    SKEIN_AREA_AUTHORIZATION = 3, /* 1, 6, and by the standard rules 8 */
+    SKEIN_AREA_PARAMETERS = 4     /* 1, of a response alone */
+};
+
 /* The rules by which a frame is judged or written. They differ in two things:
    - in responses under the tag 0x00C4, which is for the answer to a bad tag: where a TPM does not understand a command's tag it
      answers 00C4 0000000A 0000001E, TPM_ST_RSP_COMMAND and TPM_RC_BAD_TAG (Part 2, TPM_ST);
@@ -95,7 +112,7 @@ enum skein_place {
     SKEIN_OFFSET = 4,    /* a refusal's offset */
     SKEIN_SECOND = 5,    /* its second field */
     SKEIN_THIRD = 6,     /* its third field, where it has three */
-    SKEIN_FREE = 7,      /* kept free: nothing is written there */
+    SKEIN_AREA = 7,      /* its area, for every refusal */
     SKEIN_NUMBERS = 8    /* how many places there are */
 };
 
@@ -228,7 +245,7 @@ SKEIN_HOLDS(skein_size_of_keeper, sizeof(struct skein_keeper) == SKEIN_KEEPER_SI
 /* Checks a command whole. Gives nothing. */
 uint32_t skein_command_validate(uint32_t rules, const uint8_t *s, size_t len, uint64_t out[8]);
 
-/* Checks a command whole and gives all its parts by value; the array takes a refusal's fields alone. */
+/* Checks a command whole and gives all its parts by value; the array takes a refusal alone. */
 struct skein_command_parts skein_command_parts(uint32_t rules, const uint8_t *s, size_t len, uint64_t out[8]);
 
 /* Checks all but the entries. Gives the whole of the bytes: 0, len. */
@@ -277,7 +294,7 @@ uint32_t skein_command_write_array(uint32_t rules, uint16_t tag, uint32_t cc, co
 /* Checks a response to the command cc whole. Gives nothing. */
 uint32_t skein_response_validate(uint32_t rules, uint32_t cc, const uint8_t *s, size_t len, uint64_t out[8]);
 
-/* Checks a response to the command cc whole and gives all its parts by value; the array takes a refusal's fields alone. */
+/* Checks a response to the command cc whole and gives all its parts by value; the array takes a refusal alone. */
 struct skein_response_parts skein_response_parts(uint32_t rules, uint32_t cc, const uint8_t *s, size_t len, uint64_t out[8]);
 
 /* Checks the envelope and the response code. Gives the whole of the bytes: 0, len. */

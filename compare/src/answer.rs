@@ -1,9 +1,11 @@
 //! What a call answers: the number it returns, and everything that was lent to it as it is afterwards.
 //!
 //! A call of ours and a judge each start from the same preset answer and change it; then the two are compared whole. So
-//! a number that should have been left alone, or a byte beside a slice, counts as much as the answer itself. The room
-//! is kept from call to call: once it is large enough, nothing is allocated.
+//! a number that should have been left alone, or a byte beside a slice, counts as much as the answer itself. Beside a
+//! judge that names no areas all counts but the area of a refusal. The room is kept from call to call: once it is large
+//! enough, nothing is allocated.
 
+use crate::area::{self, AREA, Area};
 use crate::calls::{Frame, OFFSET, Out, Parts, Session, Sessions};
 use crate::report::report;
 use std::fmt;
@@ -61,12 +63,12 @@ impl Said {
 
     /// A judge's answer, with the numbers that it reports.
     pub fn gives(&mut self, values: &[u64]) {
-        self.refuses(0, values);
+        self.number = report(0, values.iter().copied(), &mut self.out);
     }
 
-    /// A judge's refusal, with its fields in document 01's order.
-    pub fn refuses(&mut self, number: u32, fields: &[u64]) {
-        self.number = report(number, fields.iter().copied(), &mut self.out);
+    /// The written rules' refusal, with its area and its fields in document 01's order.
+    pub fn refuses(&mut self, area: Area, number: u32, fields: &[u64]) {
+        self.number = area::refuse(area, number, fields.iter().copied(), &mut self.out);
     }
 
     pub fn number(&self) -> u32 {
@@ -75,9 +77,20 @@ impl Said {
 
     /// The numbers that were reported: an answer's, or a refusal's fields, up to the first that is untouched.
     pub fn values(&self) -> impl Iterator<Item = u64> {
-        let changed = |(now, before): (&u64, u64)| (*now != before).then_some(*now);
-        let from = if self.number == 0 { 0 } else { OFFSET };
-        self.out.iter().zip(UNTOUCHED).skip(from).map_while(changed)
+        let changed = |(now, before): (&u64, &u64)| (*now != *before).then_some(*now);
+        let places = if self.number == 0 { 0..self.out.len() } else { OFFSET..AREA };
+        self.out[places.clone()].iter().zip(&UNTOUCHED[places]).map_while(changed)
+    }
+
+    /// The area of a refusal; none of an answer, and of a refusal that has no area's number in its place.
+    pub fn area(&self) -> Option<Area> {
+        Area::numbered(self.out[AREA]).filter(|_| self.number != 0)
+    }
+
+    /// Whether the two differ in the area of a refusal at most. An answer has none: there its place has to be untouched.
+    pub fn is_but_for_area(&self, other: &Self) -> bool {
+        let places = if self.number == 0 { self.out.len() } else { AREA };
+        self.number == other.number && self.out[..places] == other.out[..places]
     }
 }
 
@@ -192,6 +205,11 @@ impl Answer {
     pub fn values(&self) -> impl Iterator<Item = u64> {
         let parts = self.kept.iter().filter(|_| self.said.number == 0).flat_map(numbers);
         self.said.values().chain(parts)
+    }
+
+    /// Whether the two differ in the area of a refusal at most.
+    pub fn is_but_for_area(&self, other: &Self) -> bool {
+        self.said.is_but_for_area(&other.said) && self.kept == other.kept && self.rooms == other.rooms
     }
 
     /// The bytes of a lent slice, counted from 0.

@@ -1,6 +1,7 @@
 //! The field suite: big-endian numbers of 16 and 32 bits, read from and written to a place of a lent slice.
 
 use crate::answer::{Answer, Hex};
+use crate::area::Area;
 use crate::calls::{self, Out};
 use crate::judge::{self, Case, Judge, Tally};
 use crate::random::Random;
@@ -74,7 +75,7 @@ fn by_document(case: &Field, answer: &mut Answer) -> bool {
     let left = case.bytes.len().saturating_sub(case.place);
     if left < width {
         let number = if writes { 9 } else { 1 };
-        answer.said.refuses(number, &[case.place as u64, width as u64, left as u64]);
+        answer.said.refuses(Area::None, number, &[case.place as u64, width as u64, left as u64]);
     } else if writes {
         put(answer.bytes_mut(0), case.place, width, case.n);
         answer.said.gives(&[]);

@@ -4,6 +4,7 @@ mod inputs;
 mod steps;
 
 use crate::answer::{Answer, Hex};
+use crate::area::Area;
 use crate::calls::Data;
 use crate::judge::{Case, Judge, Tally};
 use crate::random::Random;
@@ -137,7 +138,7 @@ where
 fn by_document<const N: usize>(case: &Fixed<N>, answer: &mut Answer) -> bool {
     let (size, other_size) = (usize::from(case.size), usize::from(case.other_size));
     if let Some(above) = [size, other_size].into_iter().find(|&size| size > N) {
-        answer.said.refuses(8, &[0, N as u64, above as u64]);
+        answer.said.refuses(Area::None, 8, &[0, N as u64, above as u64]);
         return true;
     }
     let held = &case.data[..size];
@@ -154,7 +155,9 @@ fn by_document<const N: usize>(case: &Fixed<N>, answer: &mut Answer) -> bool {
                 refill(answer, &case.other[2..][..size as usize], &[size, 2 + size]);
             }
         }
-        Call::FromSlice if case.other.len() > N => answer.said.refuses(9, &[0, case.other.len() as u64, N as u64]),
+        Call::FromSlice if case.other.len() > N => {
+            answer.said.refuses(Area::None, 9, &[0, case.other.len() as u64, N as u64])
+        }
         Call::FromSlice => refill(answer, &case.other, &[case.other.len() as u64]),
     }
     true
@@ -172,7 +175,7 @@ fn refill(answer: &mut Answer, bytes: &[u8], values: &[u64]) {
 fn grow<const N: usize>(answer: &mut Answer, size: usize, given: &[u8]) -> usize {
     let (len, room) = (given.len(), N - size);
     if len > room {
-        answer.said.refuses(9, &[size as u64, len as u64, room as u64]);
+        answer.said.refuses(Area::None, 9, &[size as u64, len as u64, room as u64]);
         return size;
     }
     answer.bytes_mut(0)[size..][..len].copy_from_slice(given);
@@ -184,7 +187,7 @@ fn grow<const N: usize>(answer: &mut Answer, size: usize, given: &[u8]) -> usize
 fn write(answer: &mut Answer, bytes: &[u8]) {
     let (len, room) = (bytes.len(), answer.bytes(1).len());
     if len > room {
-        answer.said.refuses(9, &[0, len as u64, room as u64]);
+        answer.said.refuses(Area::None, 9, &[0, len as u64, room as u64]);
         return;
     }
     answer.bytes_mut(1)[..len].copy_from_slice(bytes);

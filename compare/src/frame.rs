@@ -4,7 +4,7 @@
 //! Each call that takes rules is made in the Rust reading and in the standard one. The crate judges wherever safe Rust can
 //! ask it, read with document 01's limit on sessions and no other change; in the standard reading too, read with that
 //! reading's limit on nonces and HMACs, but for the answer to a bad tag. Document 01's rules, written out with those of the
-//! standard reading, judge everything.
+//! standard reading, judge everything, and they alone the area of a refusal.
 
 mod call;
 mod desk;
@@ -89,6 +89,7 @@ pub fn run(random: &mut Random, thin: bool) -> Vec<Tally> {
     let before = limit::EXPLAINED.so_far();
     let mut desk = Desk::new();
     inputs::each(&mut desk, random, thin);
+    desk.reach_all_areas();
     #[cfg(oracle)]
     {
         let second = "its taking nonces and HMACs of more than 64 bytes (D17)";

@@ -5,6 +5,7 @@
 //! between two calls that agree.
 
 use crate::answer::{Answer, Hex};
+use crate::area::{Area, Areas};
 use crate::by::By;
 use std::fmt::{self, Display};
 use std::ops::AddAssign;
@@ -57,6 +58,16 @@ impl<C> Judge<C> {
     pub const fn tpm2_tss(says: Says<C>) -> Self {
         Self { name: TSS, says }
     }
+
+    /// Whether it names the area of a refusal, which is document 02's and no other's.
+    fn names_areas(&self) -> bool {
+        self.name == RULES
+    }
+
+    /// Whether our answer is this judge's: as a whole, or where it names no areas but for that of a refusal.
+    pub fn agrees(&self, ours: &Answer, theirs: &Answer) -> bool {
+        if self.names_areas() { ours == theirs } else { ours.is_but_for_area(theirs) }
+    }
 }
 
 /// The number of the refusal of a length beyond a limit.
@@ -91,6 +102,8 @@ pub struct Count {
     pub against_crate: u64,
     pub against_rules: u64,
     pub against_tss: u64,
+    /// The refusals whose area is judged.
+    areas: Areas,
 }
 
 impl AddAssign for Count {
@@ -104,6 +117,7 @@ impl AddAssign for Count {
         self.against_crate += more.against_crate;
         self.against_rules += more.against_rules;
         self.against_tss += more.against_tss;
+        self.areas += more.areas;
     }
 }
 
@@ -135,13 +149,17 @@ impl Counts {
     }
 
     /// Prints a line for each of the rules by which calls were made, and one for all; where none but the Rust's were named,
-    /// the last alone.
+    /// the last alone. Then one for the areas of refusals, where there is a judge of them.
     pub fn tell(&self, whose: &str) {
         let made: Vec<_> = By::ALL.iter().zip(&self.0).filter(|(_, count)| count.calls > 0).collect();
         if made.len() > 1 {
             made.iter().for_each(|(by, count)| println!("{whose}: {} {count}", by.phrase()));
         }
-        println!("{whose}: in all {}", self.all());
+        let all = self.all();
+        println!("{whose}: in all {all}");
+        if !all.areas.is_empty() {
+            println!("{whose}: refusals by their area, judged by {RULES}: {}", all.areas);
+        }
     }
 }
 
@@ -161,6 +179,8 @@ pub struct Tally {
     too_long: u64,
     /// Those that came to 7 and may not.
     too_large: u64,
+    /// The refusals whose area is judged.
+    areas: Areas,
     mismatches: u64,
     /// One for each judge, in their order.
     voices: Vec<Voice>,
@@ -183,6 +203,7 @@ impl Tally {
             calls: 0,
             too_long: 0,
             too_large: 0,
+            areas: Areas::default(),
             mismatches: 0,
             voices: C::JUDGES.iter().map(|judge| Voice { judge: judge.name, spoke: 0, against: 0 }).collect(),
             ours: Answer::new(),
@@ -199,6 +220,10 @@ impl Tally {
         self.too_long
     }
 
+    pub fn areas(&self) -> Areas {
+        self.areas
+    }
+
     /// What may not be 7 and is counts as a mismatch with document 01's rules.
     pub fn count(&self) -> Count {
         let mut count = Count {
@@ -207,6 +232,7 @@ impl Tally {
             too_large: self.too_large,
             mismatches: self.mismatches + self.too_large,
             against_rules: self.too_large,
+            areas: self.areas,
             ..Count::default()
         };
         for voice in &self.voices {
@@ -237,7 +263,10 @@ impl Tally {
             }
             judged = true;
             self.voices[i].spoke += 1;
-            if self.ours != self.theirs {
+            if judge.names_areas() {
+                self.in_area(self.theirs.said.area());
+            }
+            if !judge.agrees(&self.ours, &self.theirs) {
                 self.voices[i].against += 1;
                 first = first.or(Some(judge));
             }
@@ -249,8 +278,10 @@ impl Tally {
     }
 
     /// Adds a call that the suite itself has made and held to the judges that spoke, none of whom contradicts its answer.
+    /// The written rules are among them.
     pub fn agreed(&mut self, answer: &Answer, spoke: impl Iterator<Item = bool>) {
         self.came_to(answer.said.number());
+        self.in_area(answer.said.area());
         self.voices.iter_mut().zip(spoke).for_each(|(voice, spoke)| voice.spoke += u64::from(spoke));
     }
 
@@ -261,10 +292,17 @@ impl Tally {
         self.too_large += u64::from(number == TOO_LARGE && !self.writes_frames);
     }
 
+    /// Counts a call by the area of its refusal.
+    fn in_area(&mut self, area: Option<Area>) {
+        area.into_iter().for_each(|area| self.areas.add(area, 1));
+    }
+
     /// Adds calls that the suite itself has made and held to the first judge, with each that came to 7 among the mismatches.
-    pub fn add(&mut self, calls: u64, mismatches: u64) {
+    /// So many of the others were refused, and held to have no area.
+    pub fn add(&mut self, calls: u64, mismatches: u64, refused: u64) {
         self.calls += calls;
         self.mismatches += mismatches;
+        self.areas.add(Area::None, refused);
         self.voices[0].spoke += calls;
         self.voices[0].against += mismatches;
     }
@@ -274,6 +312,7 @@ impl Tally {
         self.calls += other.calls;
         self.too_long += other.too_long;
         self.too_large += other.too_large;
+        self.areas += other.areas;
         self.mismatches += other.mismatches;
         for (mine, more) in self.voices.iter_mut().zip(&other.voices) {
             mine.spoke += more.spoke;
@@ -306,7 +345,7 @@ impl Tally {
 
     fn differs<C: Case>(&mut self, case: &C, judge: &Judge<C>) -> bool {
         self.ask_ours(case);
-        self.ask(judge, case) && self.ours != self.theirs
+        self.ask(judge, case) && !judge.agrees(&self.ours, &self.theirs)
     }
 
     fn mismatch<C: Case>(&mut self, case: &C, judge: &Judge<C>) {
@@ -357,8 +396,8 @@ impl Display for Tally {
 /// Lines of the fixed list, and those among them whose answer is the crate's.
 static LISTED: [AtomicU64; 2] = [const { AtomicU64::new(0) }; 2];
 
-/// Prints a case with the answer of its first judge that speaks, and the later bytes of its first slice if it writes:
-/// one line of the fixed list. Where no judge is at hand there is no line.
+/// Prints a case with the answer of its first judge that speaks, the area of a refusal, and the later bytes of its first slice
+/// if it writes: one line of the fixed list. Where no judge is at hand there is no line.
 pub fn list<C: Case>(case: &C, writes: bool) {
     let mut answer = Answer::new();
     let speaks = |judge: &&Judge<C>| {
@@ -372,7 +411,16 @@ pub fn list<C: Case>(case: &C, writes: bool) {
     LISTED[1].fetch_add((judge.name == CRATE).into(), Ordering::Relaxed);
     let values: String = answer.values().map(|value| format!(" {value}")).collect();
     let later = if writes { format!(" ; {}", Hex(answer.bytes(0))) } else { String::new() };
-    println!("{case} = {}{values}{later}", answer.said.number());
+    let area = if answer.said.number() == 0 { String::new() } else { format!(" {}", area_of(case)) };
+    println!("{case} = {}{values}{area}{later}", answer.said.number());
+}
+
+/// The area of a refused case, which the written rules alone tell.
+fn area_of<C: Case>(case: &C) -> Area {
+    let mut answer = Answer::new();
+    case.preset(&mut answer);
+    let rules = C::JUDGES.iter().find(|judge| judge.name == RULES && (judge.says)(case, &mut answer));
+    rules.and_then(|_| answer.said.area()).expect("the rules name the area of every refusal that is listed")
 }
 
 /// How many lines were listed, and whose answers they are.

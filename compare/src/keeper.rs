@@ -1,8 +1,8 @@
 //! The keeper suite: the calls on a nonce keeper, beside a keeper that is written from document 02 (W8) alone and has no
-//! places: a map from handles to nonces. Random runs of calls go in, each from an empty keeper. After each call its number and
-//! fields are held to that keeper's, and what is kept then by what `ask` and `len` tell of it, for where a nonce stands in the
-//! lent struct is the library's affair. A call that is refused or only asks leaves every byte, and no call touches one beside
-//! the struct.
+//! places: a map from handles to nonces. Random runs of calls go in, each from an empty keeper. After each call its number,
+//! fields and area are held to that keeper's, and what is kept then by what `ask` and `len` tell of it, for where a nonce
+//! stands in the lent struct is the library's affair. A call that is refused or only asks leaves every byte, and no call
+//! touches one beside the struct.
 //!
 //! The frames of an answer are judged by document 01's rules in the standard reading, written out, and where the crate is at
 //! hand by the crate too, as in the frame suite: it judges those calls as far as their frames go. States that no run gives

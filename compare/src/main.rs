@@ -14,6 +14,7 @@
 #![cfg_attr(not(oracle), allow(dead_code))]
 
 mod answer;
+mod area;
 mod by;
 // declared once for all that call the library, also for calls that are not compared
 #[allow(dead_code)]

@@ -3,6 +3,7 @@
 mod read;
 
 use crate::answer::Answer;
+use crate::area::Area;
 use crate::calls;
 use crate::judge::{Case, Judge, Tally};
 use crate::random::Random;
@@ -66,7 +67,7 @@ fn by_document(case: &Value, answer: &mut Answer) -> bool {
         4 => n(index),
         5 => n(index + 8),
         unknown => {
-            answer.said.refuses(100, &[0, unknown.into()]);
+            answer.said.refuses(Area::None, 100, &[0, unknown.into()]);
             return true;
         }
     };

@@ -1,6 +1,7 @@
 //! The view suite: a TPM2B in lent bytes, which is a 2-byte size and that many bytes of data.
 
 use crate::answer::{Answer, Hex, Said};
+use crate::area::Area;
 use crate::calls::{self, Out};
 use crate::judge::{self, Case, Judge, Tally};
 use crate::random::Random;
@@ -155,13 +156,13 @@ pub fn judged(asks: Asks, capacity: usize, bytes: &[u8], said: &mut Said) -> Opt
     let (capacity, len) = (capacity as u64, bytes.len() as u64);
     let size = bytes.first_chunk().map_or(0, |field| u16::from_be_bytes(*field).into());
     if asks >= Asks::Field && len < 2 {
-        said.refuses(1, &[0, 2, len]);
+        said.refuses(Area::None, 1, &[0, 2, len]);
     } else if asks >= Asks::Prefix && size > capacity {
-        said.refuses(8, &[0, capacity, size]);
+        said.refuses(Area::None, 8, &[0, capacity, size]);
     } else if asks >= Asks::Prefix && size > len - 2 {
-        said.refuses(1, &[2, size, len - 2]);
+        said.refuses(Area::None, 1, &[2, size, len - 2]);
     } else if asks >= Asks::Whole && size < len - 2 {
-        said.refuses(2, &[2 + size, len - 2 - size]);
+        said.refuses(Area::None, 2, &[2 + size, len - 2 - size]);
     } else {
         return Some(size);
     }

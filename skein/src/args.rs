@@ -14,12 +14,13 @@ usage: skein inspect [--json] [--raw [--pairs]] [--answers-to COMMAND]
        skein --help | --version
 
 inspect shows TPM 2.0 command and response frames, and why a bad one is
-refused. FILE, or standard input, has a frame a line in hexadecimal, or a
-command and its answer on a line with a space between them. A frame that
-stands alone is taken for a command where its code is a command's. Else it is
-taken for a response, of which the header alone is judged: what is behind it
-depends on the command that it answers. Under the tag 00C4, which no command
-has, it is a response and is judged whole.
+refused, with marks under the area that failed and the byte where it did.
+FILE, or standard input, has a frame a line in hexadecimal, or a command and
+its answer on a line with a space between them. A frame that stands alone is
+taken for a command where its code is a command's. Else it is taken for a
+response, of which the header alone is judged: what is behind it depends on
+the command that it answers. Under the tag 00C4, which no command has, it is
+a response and is judged whole.
 
 nonces follows the sessions of recorded traffic, a command and its answer a
 line: where each one opens, the nonces that it moves to, where it stays at

@@ -243,7 +243,7 @@ mod tests {
     };
     use crate::input::Place;
     use skeinloft::{
-        CommandParts, Refusal, ResponseMode, ResponseParts, Rules, TpmCc, TpmRc, TpmSt, TpmaSession, TpmsAuth,
+        Area, CommandParts, Refusal, ResponseMode, ResponseParts, Rules, TpmCc, TpmRc, TpmSt, TpmaSession, TpmsAuth,
     };
 
     const HMAC: u32 = 0x0200_0000;
@@ -372,12 +372,12 @@ mod tests {
         let refused = |refusal| [super::refused("session", refusal, None)];
         let mut sessions = with(&all);
         assert_eq!(happens(&mut sessions, &Pair::start(HMAC + 64, b"one more"), &[]), refused(Refusal::AllOpen));
-        let long = Refusal::TooManyBytes { offset: 0, limit: 64, actual: 65 };
+        let long = Refusal::TooManyBytes { area: Area::None, offset: 0, limit: 64, actual: 65 };
         assert_eq!(happens(&mut sessions, &Pair::start(HMAC + 64, &[7; 65]), &[]), refused(long));
         assert_eq!(sessions.open().count(), 64);
 
         let cut = Pair { answer: vec![0, 9, 1], ..Pair::start(HMAC, &[]) };
-        let refusal = Refusal::UnexpectedEnd { offset: 2, needed: 9, available: 1 };
+        let refusal = Refusal::UnexpectedEnd { area: Area::None, offset: 2, needed: 9, available: 1 };
         assert_eq!(happens(&mut with(&[]), &cut, &[]), [super::refused("nonce", refusal, None)]);
     }
 
@@ -422,7 +422,7 @@ mod tests {
 
         let error = [0x80, 0x01, 0, 0, 0, 10, 0, 0, 0x09, 0x8E];
         assert_eq!(said(&command, &error), [stays("the answer is TPM_RC_AUTH_FAIL (session 1)".into())]);
-        let cut = Refusal::UnexpectedEnd { offset: 0, needed: 10, available: 9 };
+        let cut = Refusal::UnexpectedEnd { area: Area::Header, offset: 0, needed: 10, available: 9 };
         assert_eq!(said(&command, &answer[..9]), [super::refused("answer", cut, None), stays(MISSED)]);
         let differ = super::refused("pair", Refusal::CountsDiffer, None);
         assert_eq!(said(&command, &without), [differ, stays(MISSED)]);
@@ -430,7 +430,7 @@ mod tests {
         // a command that is none to this table: whether the TPM did it tells the answer
         let mut other = command.clone();
         other[8..10].copy_from_slice(&[0x01, 0x97]);
-        let none = Refusal::InvalidCc { offset: 6, value: 0x197 };
+        let none = Refusal::InvalidCc { area: Area::Header, offset: 6, value: 0x197 };
         assert_eq!(said(&other, &answer), [super::refused("command", none, Some(CARRIED_OUT))]);
         assert_eq!(said(&other, &error), [super::refused("command", none, None)]);
         assert_eq!(said(&command, &answer), [does(HMAC, Does::Move, Some(b"next"), None)]);

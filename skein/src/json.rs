@@ -3,7 +3,7 @@
 
 use crate::hex::Hex;
 use crate::input::Place;
-use crate::look::{Inside, Kind, Part, Seen};
+use crate::look::{self, Inside, Kind, Part, Seen};
 use skeinloft::Refusal;
 use std::fmt::{self, Write};
 
@@ -26,6 +26,9 @@ pub fn show(place: Place, seen: &Seen, out: &mut String) -> fmt::Result {
         Ok(parts) => fields(seen.bytes, parts, out)?,
         Err(refusal) => {
             show_refusal(refusal, out)?;
+            if let Some(area) = look::refused_in(seen, refusal) {
+                fields(seen.bytes, &[look::plain("marked", area)], out)?;
+            }
             write!(out, ",\"bytes\":\"{}\"", Hex(seen.bytes))?;
         }
     }
@@ -41,7 +44,8 @@ pub fn open(place: Place, out: &mut String) -> fmt::Result {
 }
 
 pub fn show_refusal(refusal: &Refusal, out: &mut String) -> fmt::Result {
-    write!(out, ",\"refusal\":{{\"number\":{},\"name\":\"{}\"", refusal.number(), refusal.name())?;
+    let (number, name, area) = (refusal.number(), refusal.name(), refusal.area());
+    write!(out, ",\"refusal\":{{\"number\":{number},\"name\":\"{name}\",\"area\":\"{area}\"")?;
     refusal.fields().try_for_each(|(field, value)| write!(out, ",\"{field}\":{value}"))?;
     write!(out, ",\"words\":\"{refusal}\"}}")
 }

@@ -1,8 +1,8 @@
 //! What a frame is: the judgement of the library, and the parts of a frame that passes, each with its place and its meaning.
 
-use crate::text::{count, short};
+use crate::text::{count, in_full};
 use skeinloft::{
-    Areas, Reading, Refusal, ResponseParts, Rules, Sessions, TpmCc, TpmCommand, TpmRc, TpmResponse, TpmRh, TpmSt,
+    Area, Areas, Reading, Refusal, ResponseParts, Rules, Sessions, TpmCc, TpmCommand, TpmRc, TpmResponse, TpmRh, TpmSt,
     TpmsAuth,
 };
 use std::borrow::Cow;
@@ -64,6 +64,9 @@ pub enum Inside {
     Fields(Vec<Part>),
 }
 
+/// The bytes of a header.
+const HEADER: usize = 10;
+
 const ALONE_COMMAND: &str = "a command, since it stands alone";
 const ALONE_RESPONSE: &str = "a response, since it stands alone and its code is no command's; \
                               its command is not known (--answers-to), so only its header is judged";
@@ -91,7 +94,7 @@ const MANGLED: &str = "its entries fit in neither reading, so it was most likely
 pub fn look(rules: Rules, bytes: &[u8], role: Role) -> Seen<'_> {
     let seen = take(rules, bytes, role);
     match seen.verdict {
-        Err(Refusal::TooManyBytes { offset, limit, actual }) => {
+        Err(Refusal::TooManyBytes { offset, limit, actual, .. }) => {
             Seen { notes: long_field(bytes, seen.kind, offset, limit, actual).unwrap_or_default(), ..seen }
         }
         _ => seen,
@@ -199,7 +202,7 @@ fn response<'a>(rules: Rules, bytes: &'a [u8], assumed: &'static str) -> Seen<'a
     let parts = || {
         let response = TpmResponse::cast(rules, bytes)?;
         let mut parts = header(response.tag()?, bytes.len(), response.rc()?.to_string());
-        parts.push(plain("body", 10..bytes.len()));
+        parts.push(plain("body", HEADER..bytes.len()));
         Ok(parts)
     };
     Seen { assumed: Some(assumed.into()), ..any_response(rules, bytes, Kind::Response, parts()) }
@@ -215,10 +218,47 @@ fn long_field(bytes: &[u8], kind: Kind, offset: usize, limit: usize, actual: usi
     );
     let (advice, there) = match sessions(Rules::RUST, bytes, kind) {
         Ok(_) => (WRITTEN_LONG, "passes".to_owned()),
-        Err(refusal) => (MANGLED, format!("is refused for something else, {}", short(&refusal))),
+        Err(refusal) => (MANGLED, format!("is refused for something else, {}", in_full(&refusal))),
     };
     let hint = format!("the rust reading has no such limit: with --reading rust the frame {there}");
     Some(vec![("meaning", meaning.into()), ("advice", advice.into()), ("hint", hint.into())])
+}
+
+/// Where the area is that a frame is refused in, as far as the frame divides: else it goes to the end of the bytes. The code of
+/// the command that a frame answers is in no area of this frame.
+pub fn refused_in(seen: &Seen, refusal: &Refusal) -> Option<Range<usize>> {
+    let (bytes, len) = (seen.bytes, seen.bytes.len());
+    match refusal.area() {
+        Area::None => None,
+        Area::Header if is_of_command(seen, refusal) => None,
+        Area::Header => Some(0..len.min(HEADER)),
+        // they are short
+        Area::Handles => Some(HEADER..len),
+        area => {
+            // behind the handles there is a size, and what it sizes: entries in a command, parameters in a response
+            let from = handles_end(bytes, seen.kind)?;
+            let size = bytes[from..].first_chunk().map(|&field| u32::from_be_bytes(field));
+            let end = size.map(|size| from + 4 + size as usize).filter(|&end| end <= len).unwrap_or(len);
+            let sized = if seen.kind == Kind::Command { Area::Authorization } else { Area::Parameters };
+            Some(if area == sized { from..end } else { end..len })
+        }
+    }
+}
+
+/// Tells whether it is the code of the command that a frame answers which is refused.
+pub fn is_of_command(seen: &Seen, refusal: &Refusal) -> bool {
+    matches!((seen.kind, refusal), (Kind::Answer(_), Refusal::InvalidCc { .. }))
+}
+
+/// Where the handles of a frame end: under the plain tag nothing is divided behind them.
+fn handles_end(bytes: &[u8], kind: Kind) -> Option<usize> {
+    let mut plain = bytes.to_vec();
+    plain[..2].copy_from_slice(&TpmSt::NoSessions.value().to_be_bytes());
+    let areas = match kind {
+        Kind::Answer(cc) => TpmResponse::cast(Rules::STANDARD, &plain).and_then(|response| response.areas(cc)),
+        _ => TpmCommand::cast(Rules::STANDARD, &plain).and_then(|command| command.areas()),
+    };
+    areas.ok().map(|areas| areas.handles.end)
 }
 
 /// Which nonce or HMAC has its size at a place. The frame passes that ends behind an empty one in its stead: behind an HMAC at
@@ -253,7 +293,7 @@ fn header(tag: TpmSt, len: usize, code: String) -> Vec<Part> {
     vec![says("tag", 0..2, tag.to_string()), size("size", 2, len), says("code", 6..10, code)]
 }
 
-fn plain(name: &'static str, at: Range<usize>) -> Part {
+pub fn plain(name: &'static str, at: Range<usize>) -> Part {
     says(name, at, String::new())
 }
 

@@ -6,7 +6,7 @@ use crate::input::{Place, Stop, Taker};
 use crate::json;
 use crate::look::{Role, code};
 use crate::out::Out;
-use crate::text::short;
+use crate::text::in_full;
 use skeinloft::TpmCc;
 use std::fmt::{self, Write as _};
 use std::io::{self, Write};
@@ -154,7 +154,7 @@ fn show_text(place: Place, command: Option<TpmCc>, event: &Event, out: &mut Stri
             (':', why)
         }
         Event::Refused { what, refusal, why } => {
-            write!(out, "the {what} is REFUSED: {}: {refusal}", short(refusal))?;
+            write!(out, "the {what} is REFUSED: {}", in_full(refusal))?;
             (';', why)
         }
     };

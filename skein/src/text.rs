@@ -2,9 +2,10 @@
 
 use crate::hex::Hex;
 use crate::input::Place;
-use crate::look::{Inside, Kind, Part, Seen};
+use crate::look::{self, Inside, Kind, Part, Seen};
 use skeinloft::Refusal;
 use std::fmt::{self, Write};
+use std::ops::Range;
 
 /// Bytes in a row of a part.
 const ROW: usize = 32;
@@ -82,43 +83,58 @@ fn show_bytes(bytes: &[u8], meaning: &str, out: &mut String) -> fmt::Result {
     Ok(())
 }
 
-/// The refusal's name, its number and its fields, if it has some.
-pub fn short(refusal: &Refusal) -> String {
+/// The refusal's name, its number, its fields, if it has some, and its words.
+pub fn in_full(refusal: &Refusal) -> String {
     let fields: Vec<String> = refusal.fields().map(|(_, value)| value.to_string()).collect();
     let fields = if fields.is_empty() { String::new() } else { format!("({})", fields.join(",")) };
-    format!("{} {}{fields}", refusal.name(), refusal.number())
+    format!("{} {}{fields}: {refusal}", refusal.name(), refusal.number())
 }
 
-/// The refusal in words, and the bytes around its place with a mark under it.
+/// The refusal in words, and the bytes around its place with marks under it and under its area.
 fn show_refusal(seen: &Seen, refusal: &Refusal, out: &mut String) -> fmt::Result {
-    writeln!(out, "  {}: {refusal}", short(refusal))?;
-    if matches!((seen.kind, refusal), (Kind::Answer(_), Refusal::InvalidCc { .. })) {
+    writeln!(out, "  {}", in_full(refusal))?;
+    if look::is_of_command(seen, refusal) {
         return writeln!(out, "  it is the code of the command that this answers");
     }
-    mark(seen.bytes, refusal.offset().min(seen.bytes.len()), out)
+    let (place, area) = (refusal.offset().min(seen.bytes.len()), look::refused_in(seen, refusal).unwrap_or_default());
+    mark(seen.bytes, place, &area, out)?;
+    write!(out, "         ^^ byte {place}{}", if place == seen.bytes.len() { ", behind the last" } else { "" })?;
+    if !area.is_empty() {
+        write!(out, "; ~~ the {} area, {}..{}", refusal.area(), area.start, area.end)?;
+    }
+    writeln!(out)
 }
 
-/// Rows of 16 bytes, with the row of the place in the middle and a mark under the place.
-fn mark(bytes: &[u8], place: usize, out: &mut String) -> fmt::Result {
+/// Rows of 16 bytes, the first of the area and those around the place, with marks under the area and under the place.
+fn mark(bytes: &[u8], place: usize, area: &Range<usize>, out: &mut String) -> fmt::Result {
     const ROW: usize = 16;
     const AROUND: usize = 4;
     let marked = place / ROW;
-    let first = marked.saturating_sub(AROUND);
-    if first > 0 {
-        writeln!(out, "         ({} before)", count(first * ROW, "byte"))?;
-    }
-    for row in first..=marked + AROUND {
+    let around = marked.saturating_sub(AROUND)..=marked + AROUND;
+    let first = area.clone().next().map(|at| at / ROW).filter(|row| row < around.start());
+    let mut shown = 0;
+    for row in first.into_iter().chain(around) {
         let (from, to) = (row * ROW, bytes.len().min((row + 1) * ROW));
-        if from < to || row == marked {
-            write!(out, "{from:>7} ")?;
-            bytes[from..to.max(from)].iter().try_for_each(|byte| write!(out, " {byte:02x}"))?;
-            writeln!(out)?;
+        if from >= to && row != marked {
+            break;
         }
-        if row == marked {
-            let behind = if place == bytes.len() { ", behind the last" } else { "" };
-            writeln!(out, "{:before$} ^^ byte {place}{behind}", "", before = 8 + 3 * (place - from))?;
+        if from > shown {
+            let left_out = if shown == 0 { "before" } else { "between" };
+            writeln!(out, "         ({} {left_out})", count(from - shown, "byte"))?;
+        }
+        write!(out, "{from:>7} ")?;
+        bytes[from..to].iter().try_for_each(|byte| write!(out, " {byte:02x}"))?;
+        writeln!(out)?;
+        shown = to;
+        let under = |at| match at {
+            _ if at == place => " ^^",
+            _ if area.contains(&at) => " ~~",
+            _ => "   ",
+        };
+        let marks: String = (from..from + ROW).map(under).collect();
+        if !marks.trim().is_empty() {
+            writeln!(out, "        {}", marks.trim_end())?;
         }
     }
-    let last = bytes.len().min((marked + AROUND + 1) * ROW);
-    if last < bytes.len() { writeln!(out, "         ({} behind)", count(bytes.len() - last, "byte")) } else { Ok(()) }
+    if shown < bytes.len() { writeln!(out, "         ({} behind)", count(bytes.len() - shown, "byte")) } else { Ok(()) }
 }

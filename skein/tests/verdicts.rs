@@ -6,14 +6,20 @@
 mod common;
 
 use common::{calls, facts, traces, unhex};
+use std::collections::BTreeSet;
 use std::io::Write;
 use std::path::Path;
 use std::process::{Command, Stdio};
 
 const KEPT: &str = concat!(env!("CARGO_MANIFEST_DIR"), "/../compare/src/frame/real.txt");
 
-/// What is said of a frame: 0 where it passes, else the refusal's number, and the fields.
-type Said = (u64, Vec<u64>);
+/// What is said of a frame: 0 where it passes, else the refusal's number, the fields, and the area.
+type Said = (u64, Vec<u64>, &'static str);
+
+const PASSES: Said = (0, Vec::new(), "");
+
+/// The areas by their numbers.
+const AREAS: [&str; 5] = ["none", "header", "handles", "authorization", "parameters"];
 
 /// The numbers of the rules, and the words that `skein` takes for them.
 const READINGS: [(u32, &[&str]); 2] = [(calls::STANDARD, &[]), (calls::RUST, &["--reading", "rust"])];
@@ -34,22 +40,29 @@ fn told(json: &[u8]) -> Vec<Said> {
 
 fn one_told(line: &str) -> Said {
     if line.contains("\"passes\":true") {
-        return (0, Vec::new());
+        return PASSES;
     }
-    let number = |name: &str| {
-        let (_, behind) = line.split_once(&format!("\"{name}\":"))?;
-        behind.split([',', '}']).next()?.parse().ok()
-    };
-    let fields = ["offset", "needed", "available", "limit", "actual", "value"].into_iter().filter_map(number);
-    (number("number").expect("a refusal has a number"), fields.collect())
+    let fields = ["offset", "needed", "available", "limit", "actual", "value"];
+    let fields = fields.into_iter().filter_map(|name| number(line, name));
+    let area = AREAS.into_iter().find(|area| line.contains(&format!("\"area\":\"{area}\"")));
+    (number(line, "number").expect("a refusal has a number"), fields.collect(), area.expect("a refusal has an area"))
+}
+
+/// The number of this name in a line, where there is one.
+fn number(line: &str, name: &str) -> Option<u64> {
+    let (_, behind) = line.split_once(&format!("\"{name}\":"))?;
+    behind.split([',', '}']).next()?.parse().ok()
 }
 
 /// The same of a call.
 fn said(call: impl FnOnce(&mut calls::Out) -> u32) -> Said {
     let mut out = [u64::MAX; 8];
     let number = call(&mut out);
-    let fields = out[calls::OFFSET..].iter().copied().take_while(|&field| field != u64::MAX);
-    (number.into(), if number == 0 { Vec::new() } else { fields.collect() })
+    if number == 0 {
+        return PASSES;
+    }
+    let fields = out[calls::OFFSET..calls::AREA].iter().copied().take_while(|&field| field != u64::MAX);
+    (number.into(), fields.collect(), AREAS[out[calls::AREA] as usize])
 }
 
 /// What the library says of a line by these rules: of the command, and of its answer.
@@ -81,7 +94,7 @@ fn check_by(rules: u32, words: &[&str], file: &Path) -> usize {
     for (place, (ours, theirs)) in ours.iter().zip(&theirs).enumerate() {
         assert_eq!(ours, theirs, "{}, frame {place}", file.display());
     }
-    let refused = theirs.iter().any(|(number, _)| *number != 0);
+    let refused = theirs.iter().any(|said| *said != PASSES);
     assert_eq!(run.status.code(), Some(refused.into()), "{}", file.display());
     assert!(run.stderr.is_empty());
     theirs.len()
@@ -121,7 +134,7 @@ fn check_row(rules: u32, words: &[&str], row: &str) {
     let theirs = if kind.ends_with("command") {
         match said(|out| calls::command_validate(rules, &bytes, out)) {
             // no command by its code
-            (4, _) => said(|out| calls::response_cast(rules, &bytes, out)),
+            (4, ..) => said(|out| calls::response_cast(rules, &bytes, out)),
             said => said,
         }
     } else {
@@ -161,7 +174,7 @@ fn under_the_tag_of_the_answer_to_a_bad_tag() {
     for (rules, words) in READINGS {
         let judged = |hex: &String| said(|out| calls::response_validate(rules, SOME, &unhex(hex), out));
         let theirs: Vec<Said> = frames.iter().map(judged).collect();
-        let passing = theirs.iter().zip(&frames).filter(|((number, _), _)| *number == 0).map(|(_, hex)| hex.as_str());
+        let passing = theirs.iter().zip(&frames).filter(|(said, _)| **said == PASSES).map(|(_, hex)| hex.as_str());
         let due: &[&str] = if rules == calls::STANDARD { &["00c40000000a0000001e"] } else { &[] };
         assert!(passing.eq(due.iter().copied()));
         assert_eq!(shown(skein(words), &frames.join("\n")), theirs);
@@ -207,10 +220,75 @@ fn long_fields_are_named() {
             assert_eq!(one_told(line), judged(calls::STANDARD, hex), "{hex}");
             let field = format!("the {} of session {} is longer", if hmac { "HMAC" } else { "nonce" }, before + 1);
             assert_eq!(line.contains(&field), size > 64, "{line}");
-            let (rust, _) = judged(calls::RUST, hex);
+            let (rust, ..) = judged(calls::RUST, hex);
             assert_eq!(rust == 0, size == there, "{hex}");
             assert_eq!(line.contains("rust the frame passes"), size > 64 && rust == 0, "{line}");
             assert_eq!(line.contains("rust the frame is refused for something else"), size > 64 && rust != 0, "{line}");
         }
+    }
+}
+
+/// A TPM2_Load with a session, and an answer to it: both have a handle.
+const LOAD: u32 = 0x157;
+const LOADED: [(bool, &str); 2] = [
+    (true, "80020000001d0000015780000000000000094000000900000100000102"),
+    (false, "80020000001900000000800000000000000203040000010000"),
+];
+
+/// A frame of this pair cut at each place, as its size field says where it has one, and with each size behind its handles.
+fn damaged(hex: &str) -> Vec<Vec<u8>> {
+    let whole = unhex(hex);
+    let cut = |len: usize| {
+        let mut cut = whole[..len].to_vec();
+        if let Some(size) = cut.get_mut(2..6) {
+            size.copy_from_slice(&(len as u32).to_be_bytes());
+        }
+        cut
+    };
+    let sized = |size| [&whole[..17], &[size], &whole[18..]].concat();
+    (1..whole.len()).map(cut).chain((0..=40).map(sized)).collect()
+}
+
+/// Where an area is, by the table and the size behind the handles; the end of the bytes is the end of what is short.
+fn area_at(command: bool, area: &str, bytes: &[u8]) -> [usize; 2] {
+    let mut out = [0; 8];
+    assert_eq!(calls::table_find(LOAD, &mut out), 0);
+    let [of_command, of_answer, ..] = out;
+    let (header, len) = (10, bytes.len());
+    let handles = header + 4 * if command { of_command } else { of_answer } as usize;
+    let size = bytes.get(handles..handles + 4).map(|field| u32::from_be_bytes(field.try_into().expect("four bytes")));
+    let end = size.map_or(len, |size| len.min(handles + 4 + size as usize));
+    match (area, command) {
+        ("header", _) => [0, header.min(len)],
+        ("handles", _) => [header, handles.min(len)],
+        ("authorization", true) | ("parameters", false) => [handles, end],
+        ("authorization", false) => [end, len],
+        _ => panic!("no frame is refused in {area}"),
+    }
+}
+
+/// The bytes of the area that a frame is refused in are marked.
+#[test]
+fn areas_are_marked() {
+    for (command, hex) in LOADED {
+        let frames = damaged(hex);
+        let lines: Vec<String> =
+            frames.iter().map(|bytes| bytes.iter().map(|byte| format!("{byte:02x}")).collect()).collect();
+        let words: &[&str] = if command { &[] } else { &["--answers-to", "Load"] };
+        let shown = String::from_utf8(written(skein(words), &lines.join("\n"))).expect("text");
+        assert_eq!(shown.lines().count(), frames.len());
+        let mut seen = BTreeSet::new();
+        for (line, bytes) in shown.lines().zip(&frames) {
+            let (refused, _, area) = one_told(line);
+            let place = |behind, name| number(behind, name).expect("a place") as usize;
+            let marked =
+                line.split_once("\"marked\":").map(|(_, behind)| ["from", "to"].map(|name| place(behind, name)));
+            let due = (refused != 0).then(|| area_at(command, area, bytes));
+            assert_eq!(marked, due, "{line}");
+            seen.insert(area);
+        }
+        let of_both = ["", "header", "handles", "authorization"];
+        let due = of_both.into_iter().chain((!command).then_some("parameters"));
+        assert_eq!(seen, due.collect(), "{hex}");
     }
 }

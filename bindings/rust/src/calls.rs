@@ -2,7 +2,7 @@
 //!
 //! One form for all: numbers, bytes that are read, bytes that are written, and last the lent array of eight numbers. The
 //! refusal's number comes back (0: an answer). An answer's numbers go to the places 0 to 3 of the array, a refusal's fields
-//! to the places from 4 on. All parts of a frame come by value, with the number before them, and the writers take the
+//! to the places from 4 on, and its area to the last one. All parts of a frame come by value, with the number before them, and the writers take the
 //! sessions in the record that is among them.
 
 /// The lent array.
@@ -10,6 +10,9 @@ pub type Out = [u64; 8];
 
 /// The place of a refusal's first field in the array; the others follow it.
 pub const OFFSET: usize = 4;
+
+/// The place of a refusal's area, behind its fields.
+pub const AREA: usize = 7;
 
 /// The numbers of the rules by which a call judges; the third is for the writers of responses alone.
 pub const RUST: u32 = 0;

@@ -36,10 +36,10 @@ impl<'a> TpmCommand<'a> {
     /// that is none, handles or an authorization area that are cut short.
     ///
     /// ```
-    /// use skeinloft::{Refusal, Rules, TpmCommand};
+    /// use skeinloft::{Area, Refusal, Rules, TpmCommand};
     ///
     /// let refusal = TpmCommand::cast(Rules::STANDARD, &[0x80, 0x01, 0, 0, 0, 11, 0, 0, 0x01, 0x44, 0, 0]).unwrap_err();
-    /// assert_eq!(refusal, Refusal::TrailingData { offset: 11, actual: 1 });
+    /// assert_eq!(refusal, Refusal::TrailingData { area: Area::Header, offset: 11, actual: 1 });
     /// ```
     pub fn cast(rules: Rules, bytes: &'a [u8]) -> Result<Self, Refusal> {
         ask(|out| calls::command_cast(rules.number(), bytes, out))?;
@@ -187,19 +187,19 @@ impl<'a> TpmCommand<'a> {
     /// [`MAX_DIGEST_SIZE`](crate::MAX_DIGEST_SIZE) bytes, [`Refusal::TooManyBytes`] at the place of its size.
     ///
     /// ```
-    /// use skeinloft::{Refusal, Rules, TpmCommand};
+    /// use skeinloft::{Area, Refusal, Rules, TpmCommand};
     ///
     /// // the HMAC of the entry has no size
     /// let bytes = [0x80, 0x02, 0, 0, 0, 23, 0, 0, 0x01, 0x7B, 0, 0, 0, 7, 0x40, 0, 0, 9, 0, 0, 0, 0, 8];
     /// let refusal = TpmCommand::cast(Rules::STANDARD, &bytes)?.validate().unwrap_err();
-    /// assert_eq!(refusal, Refusal::UnexpectedEnd { offset: 21, needed: 2, available: 0 });
+    /// assert_eq!(refusal, Refusal::UnexpectedEnd { area: Area::Authorization, offset: 21, needed: 2, available: 0 });
     ///
     /// // a nonce of 65 bytes
     /// let mut bytes = [0; 90];
     /// bytes[..20].copy_from_slice(&[0x80, 0x02, 0, 0, 0, 90, 0, 0, 0x01, 0x7B, 0, 0, 0, 74, 0x40, 0, 0, 9, 0, 65]);
     /// TpmCommand::cast(Rules::RUST, &bytes)?.validate()?;
     /// let refusal = TpmCommand::cast(Rules::STANDARD, &bytes)?.validate().unwrap_err();
-    /// assert_eq!(refusal, Refusal::TooManyBytes { offset: 18, limit: 64, actual: 65 });
+    /// assert_eq!(refusal, Refusal::TooManyBytes { area: Area::Authorization, offset: 18, limit: 64, actual: 65 });
     /// # Ok::<(), Refusal>(())
     /// ```
     pub fn validate(&self) -> Result<(), Refusal> {
@@ -300,7 +300,7 @@ impl CommandParts<'_> {
     /// [`WriteRefusal::IntegerTooLarge`], room that is too short. The room is then as it was.
     ///
     /// ```
-    /// use skeinloft::{Refusal, Rules, TpmCommand};
+    /// use skeinloft::{Area, Refusal, Rules, TpmCommand};
     ///
     /// let bytes = [0x80, 0x01, 0, 0, 0, 12, 0, 0, 0x01, 0x44, 0, 0];
     /// let parts = TpmCommand::cast(Rules::STANDARD, &bytes)?.parts()?;
@@ -309,12 +309,12 @@ impl CommandParts<'_> {
     /// assert_eq!(room, bytes);
     ///
     /// let refusal = parts.marshal(Rules::STANDARD, &mut room[1..]).unwrap_err();
-    /// assert_eq!(refusal, Refusal::BufferOverflow { offset: 0, needed: 12, available: 11 }.into());
+    /// assert_eq!(refusal, Refusal::BufferOverflow { area: Area::None, offset: 0, needed: 12, available: 11 }.into());
     /// # Ok::<(), skeinloft::WriteRefusal>(())
     /// ```
     ///
     /// ```
-    /// use skeinloft::{CommandParts, Refusal, Rules, Sessions, TpmCc, TpmSt, TpmsAuth};
+    /// use skeinloft::{Area, CommandParts, Refusal, Rules, Sessions, TpmCc, TpmSt, TpmsAuth};
     ///
     /// let mut scratch = [0; 65];
     /// let entry = TpmsAuth { session_handle: 0x0200_0000, nonce: &[7; 65], ..TpmsAuth::default() };
@@ -328,7 +328,7 @@ impl CommandParts<'_> {
     /// let mut room = [0; 90];
     /// assert_eq!(random.marshal(Rules::RUST, &mut room)?, 90);
     /// let refusal = random.marshal(Rules::STANDARD, &mut room).unwrap_err();
-    /// assert_eq!(refusal, Refusal::TooManyBytes { offset: 0, limit: 64, actual: 65 }.into());
+    /// assert_eq!(refusal, Refusal::TooManyBytes { area: Area::None, offset: 0, limit: 64, actual: 65 }.into());
     /// # Ok::<(), skeinloft::WriteRefusal>(())
     /// ```
     #[doc(alias = "tpm_marshal_command")]

@@ -66,11 +66,11 @@ impl Keeper {
     /// [`MAX_DIGEST_SIZE`](crate::MAX_DIGEST_SIZE) bytes, [`Refusal::AllOpen`].
     ///
     /// ```
-    /// use skeinloft::{Keeper, Refusal};
+    /// use skeinloft::{Area, Keeper, Refusal};
     ///
     /// let mut keeper = Keeper::new();
     /// let refusal = keeper.open(0x0200_0000, &[7; 65]).unwrap_err();
-    /// assert_eq!(refusal, Refusal::TooManyBytes { offset: 0, limit: 64, actual: 65 });
+    /// assert_eq!(refusal, Refusal::TooManyBytes { area: Area::None, offset: 0, limit: 64, actual: 65 });
     ///
     /// keeper.open(0x0200_0000, &[7; 64])?;
     /// assert_eq!(keeper.open(0x0200_0000, &[8; 64]), Err(Refusal::AlreadyOpen));

@@ -2,8 +2,8 @@
 //!
 //! Every answer comes from Skeinloft, which is written in Rattle: each of its functions is proved to give the answer that
 //! its definition says, for every input, and to stay inside the bytes that it is given. This crate lends it slices and gives
-//! back slices. A bad frame gets one [`Refusal`], with a number, a name and fields; nothing is changed by a refused call. What
-//! writes frames answers with [`WriteRefusal`], which has one more.
+//! back slices. A bad frame gets one [`Refusal`], with a number, a name, the [`Area`] of the frame and fields; nothing is
+//! changed by a refused call. What writes frames answers with [`WriteRefusal`], which has one more.
 //!
 //! The crate has no dependency, allocates nothing and needs no `std`; `unsafe` is in one file, which declares the calls.
 //! The names are those of tpm2-protocol where it has them. An installed crate is linked with the library that was installed
@@ -68,6 +68,7 @@
 #![deny(unsafe_code)]
 #![warn(missing_docs)]
 
+mod area;
 mod base;
 // each call stands there once, also those that this crate does not make
 #[allow(dead_code, unsafe_code)]
@@ -86,6 +87,7 @@ mod st;
 mod tpm2b;
 mod view;
 
+pub use area::Area;
 pub use base::TpmRcBase;
 pub use cc::TpmCc;
 pub use command::{CommandParts, TpmCommand};

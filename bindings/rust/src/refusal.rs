@@ -1,24 +1,27 @@
 //! Why a call was refused.
 
-use crate::calls::{OFFSET, Out};
+use crate::area::Area;
+use crate::calls::{AREA, OFFSET, Out};
 use core::fmt;
 
-/// One list of all refusals but that of the writers alone: a number, the name, its fields if it has some, and its words.
+/// One list of all refusals but that of the writers alone: a number, the name, its fields if it has some, and its words. One
+/// with fields has an area too.
 macro_rules! refusals {
     ($($(#[$doc:meta])* $number:literal $name:ident $({ $($(#[$told:meta])* $field:ident: $type:ty,)* })? $words:literal)*) => {
-        /// Why a call was refused: bad input has one refusal, by number, name and fields.
+        /// Why a call was refused: bad input has one refusal, by number, name, area and fields.
         ///
-        /// The names and the fields are those of `TpmError` in tpm2-protocol. The offset is always the first field, and
-        /// counts from the first byte that the call was given. Those from 13 on are of [`Keeper`](crate::Keeper), which
-        /// tpm2-protocol does not have, and have no fields.
+        /// The names and the fields are those of `TpmError` in tpm2-protocol, which has no area. The offset is always the
+        /// first field, and counts from the first byte that the call was given. Those from 13 on are of
+        /// [`Keeper`](crate::Keeper), which tpm2-protocol does not have; they have no fields, and are in no area.
         ///
         /// ```
-        /// use skeinloft::{Refusal, Rules, TpmCommand};
+        /// use skeinloft::{Area, Refusal, Rules, TpmCommand};
         ///
         /// let refusal = TpmCommand::cast(Rules::STANDARD, &[0x80, 0x01]).unwrap_err();
-        /// assert_eq!(refusal, Refusal::UnexpectedEnd { offset: 0, needed: 10, available: 2 });
+        /// let short = Refusal::UnexpectedEnd { area: Area::Header, offset: 0, needed: 10, available: 2 };
+        /// assert_eq!(refusal, short);
         /// assert_eq!((refusal.number(), refusal.name()), (1, "UnexpectedEnd"));
-        /// assert_eq!(refusal.to_string(), "the bytes end too early at byte 0: needed 10, available 2");
+        /// assert_eq!(refusal.to_string(), "in the header area, the bytes end too early at byte 0: needed 10, available 2");
         /// ```
         ///
         /// There is no `IntegerTooLarge`, 7: it is proved that no call but a writer of frames gives it, whatever the input. The
@@ -34,9 +37,15 @@ macro_rules! refusals {
         #[derive(Clone, Copy, Debug, PartialEq, Eq, Hash)]
         #[non_exhaustive]
         pub enum Refusal {
-            $($(#[$doc])* $name $({ $($(#[$told])* $field: $type,)* })?,)*
+            $($(#[$doc])* $name $({
+                /// The area of the frame.
+                area: Area,
+                $($(#[$told])* $field: $type,)*
+            })?,)*
             /// A number that this crate has no name for: the library is newer than the crate.
             Unlisted {
+                /// The area, as in every refusal.
+                area: Area,
                 /// The place, as in every refusal.
                 offset: usize,
                 /// The refusal's number.
@@ -45,13 +54,14 @@ macro_rules! refusals {
         }
 
         impl Refusal {
-            /// The refusal of a number, with the fields that the lent array holds.
+            /// The refusal of a number, with the area and the fields that the lent array holds.
             pub(crate) fn new(number: u32, out: &Out) -> Self {
-                let mut fields = out[OFFSET..].iter();
+                let area = Area::new(out);
+                let mut fields = out[OFFSET..AREA].iter();
                 let mut next = || fields.next().copied().unwrap_or_default();
                 match number {
-                    $($number => Self::$name { $($($field: next() as $type,)*)? },)*
-                    _ => Self::Unlisted { offset: next() as usize, number },
+                    $($number => Self::$name { $(area, $($field: next() as $type,)*)? },)*
+                    _ => Self::Unlisted { area, offset: next() as usize, number },
                 }
             }
 
@@ -92,7 +102,7 @@ macro_rules! refusals {
             pub fn fields(&self) -> impl Iterator<Item = (&'static str, u64)> + use<> {
                 let none = ("", 0);
                 let fields: [(&'static str, u64); 3] = match *self {
-                    $(Self::$name { $($($field,)*)? } => {
+                    $(Self::$name { $($($field,)*)? .. } => {
                         let mut fields = [none; 3];
                         let told: &[(&'static str, u64)] = &[$($((stringify!($field), $field as u64),)*)?];
                         fields[..told.len()].copy_from_slice(told);
@@ -112,18 +122,44 @@ macro_rules! refusals {
             #[must_use]
             pub const fn offset(&self) -> usize {
                 match *self {
-                    $(Self::$name { $($($field,)*)? } => first(&[$($($field as usize,)*)?]),)*
+                    $(Self::$name { $($($field,)*)? .. } => first(&[$($($field as usize,)*)?]),)*
                     Self::Unlisted { offset, .. } => offset,
+                }
+            }
+
+            /// The area of the frame that the refusal is about.
+            ///
+            /// ```
+            /// use skeinloft::{Area, Rules, TpmCommand};
+            ///
+            /// // a TPM2_GetRandom with an authorization area of one byte
+            /// let bytes = [0x80, 0x02, 0, 0, 0, 15, 0, 0, 0x01, 0x7B, 0, 0, 0, 1, 0];
+            /// let refusal = TpmCommand::cast(Rules::STANDARD, &bytes)?.validate().unwrap_err();
+            /// assert_eq!((refusal.area(), refusal.offset()), (Area::Authorization, 14));
+            /// // there is no frame
+            /// assert_eq!(skeinloft::TpmRc::try_from(0x0C4).unwrap_err().area(), Area::None);
+            /// # Ok::<(), skeinloft::Refusal>(())
+            /// ```
+            #[must_use]
+            pub const fn area(&self) -> Area {
+                // of one without fields
+                let area = Area::None;
+                match *self {
+                    $(Self::$name { $(area, $($field: _,)*)? } => area,)*
+                    Self::Unlisted { area, .. } => area,
                 }
             }
         }
 
-        /// In words.
+        /// In words, with the area where there is one.
         impl fmt::Display for Refusal {
             fn fmt(&self, f: &mut fmt::Formatter) -> fmt::Result {
+                if self.area() != Area::None {
+                    write!(f, "in the {} area, ", self.area())?;
+                }
                 match *self {
-                    $(Self::$name { $($($field,)*)? } => write!(f, $words),)*
-                    Self::Unlisted { offset, number } => write!(f, "refused at byte {offset} by the number {number}"),
+                    $(Self::$name { $($($field,)*)? .. } => write!(f, $words),)*
+                    Self::Unlisted { offset, number, .. } => write!(f, "refused at byte {offset} by the number {number}"),
                 }
             }
         }
@@ -245,7 +281,7 @@ impl core::error::Error for Refusal {}
 /// A function that reads and writes answers with this: `?` takes the refusals of both.
 ///
 /// ```
-/// use skeinloft::{Refusal, Rules, TpmCommand, WriteRefusal};
+/// use skeinloft::{Area, Refusal, Rules, TpmCommand, WriteRefusal};
 ///
 /// fn write_again(frame: &[u8], room: &mut [u8]) -> Result<usize, WriteRefusal> {
 ///     let parts = TpmCommand::cast(Rules::STANDARD, frame)?.parts()?;
@@ -253,8 +289,9 @@ impl core::error::Error for Refusal {}
 /// }
 ///
 /// let refusal = write_again(&[0x80, 0x01], &mut []).unwrap_err();
-/// assert_eq!(refusal, Refusal::UnexpectedEnd { offset: 0, needed: 10, available: 2 }.into());
-/// assert_eq!(refusal.to_string(), "the bytes end too early at byte 0: needed 10, available 2");
+/// let short = Refusal::UnexpectedEnd { area: Area::Header, offset: 0, needed: 10, available: 2 };
+/// assert_eq!(refusal, short.into());
+/// assert_eq!(refusal.to_string(), "in the header area, the bytes end too early at byte 0: needed 10, available 2");
 /// ```
 #[derive(Clone, Copy, Debug, PartialEq, Eq, Hash)]
 #[non_exhaustive]
@@ -297,9 +334,9 @@ impl WriteRefusal {
     /// The name, which is the inner one's for [`Common`](Self::Common).
     ///
     /// ```
-    /// use skeinloft::{Refusal, WriteRefusal};
+    /// use skeinloft::{Area, Refusal, WriteRefusal};
     ///
-    /// let refusal = WriteRefusal::Common(Refusal::InvalidCc { offset: 0, value: 0x197 });
+    /// let refusal = WriteRefusal::Common(Refusal::InvalidCc { area: Area::None, offset: 0, value: 0x197 });
     /// assert_eq!(refusal.name(), "InvalidCc");
     /// ```
     #[must_use]
@@ -339,6 +376,26 @@ impl WriteRefusal {
             Self::Common(refusal) => refusal.offset(),
         }
     }
+
+    /// The area, as [`Refusal::area`]: none where a writer refuses, since there is no frame yet.
+    ///
+    /// ```
+    /// use skeinloft::{Area, Refusal, Rules, TpmCommand, WriteRefusal};
+    ///
+    /// let read = TpmCommand::cast(Rules::STANDARD, &[0x80, 0x01, 0, 0, 0, 10, 0, 0, 0x01, 0x7C])?;
+    /// assert_eq!(read.parts()?.marshal(Rules::STANDARD, &mut []).unwrap_err().area(), Area::None);
+    ///
+    /// let of_a_frame = TpmCommand::cast(Rules::STANDARD, &[]).unwrap_err();
+    /// assert_eq!(WriteRefusal::from(of_a_frame).area(), Area::Header);
+    /// # Ok::<(), Refusal>(())
+    /// ```
+    #[must_use]
+    pub const fn area(&self) -> Area {
+        match self {
+            Self::IntegerTooLarge { .. } => Area::None,
+            Self::Common(refusal) => refusal.area(),
+        }
+    }
 }
 
 impl From<Refusal> for WriteRefusal {
@@ -363,13 +420,27 @@ impl core::error::Error for WriteRefusal {}
 #[cfg(test)]
 mod tests {
     use super::{Refusal, WriteRefusal};
+    use crate::area::Area;
     use core::error::Error;
 
     #[test]
     fn fields_come_from_their_places() {
-        let out = [1, 2, 3, 4, 5, 6, 7, 8];
-        assert_eq!(Refusal::new(6, &out), Refusal::TooManyItems { offset: 5, limit: 6, actual: 7 });
-        assert_eq!(Refusal::new(2, &out), Refusal::TrailingData { offset: 5, actual: 6 });
+        let out = [1, 2, 3, 4, 5, 6, 7, 3];
+        let area = Area::Authorization;
+        assert_eq!(Refusal::new(6, &out), Refusal::TooManyItems { area, offset: 5, limit: 6, actual: 7 });
+        assert_eq!(Refusal::new(2, &out), Refusal::TrailingData { area, offset: 5, actual: 6 });
+        assert_eq!(Refusal::new(100, &out), Refusal::Unlisted { area, offset: 5, number: 100 });
+    }
+
+    #[test]
+    fn areas_come_from_their_numbers() {
+        let areas = [Area::None, Area::Header, Area::Handles, Area::Authorization, Area::Parameters];
+        for (area, number) in areas.into_iter().zip(0..) {
+            let refusal = Refusal::new(1, &[0, 0, 0, 0, 0, 0, 0, number]);
+            assert_eq!((refusal.area(), WriteRefusal::from(refusal).area()), (area, area));
+        }
+        // there is no sixth
+        assert_eq!(Refusal::new(1, &[5; 8]).area(), Area::None);
     }
 
     #[test]
@@ -392,19 +463,20 @@ mod tests {
 
     #[test]
     fn writers_have_one_more() {
-        let out = [1, 2, 3, 4, 5, 6, 7, 8];
+        let out = [1, 2, 3, 4, 5, 6, 7, 1];
         for number in 1..=120 {
             let refusal = WriteRefusal::new(number, &out);
             assert_eq!(refusal.number(), number);
             if number == 7 {
                 assert_eq!(refusal, WriteRefusal::IntegerTooLarge { offset: 5, value: 6 });
-                assert_eq!((refusal.name(), refusal.offset()), ("IntegerTooLarge", 5));
+                assert_eq!((refusal.name(), refusal.offset(), refusal.area()), ("IntegerTooLarge", 5, Area::None));
                 assert!(refusal.fields().eq([("offset", 5), ("value", 6)]));
                 continue;
             }
             let other = Refusal::new(number, &out);
             assert_eq!(refusal, WriteRefusal::from(other));
             assert_eq!((refusal.name(), refusal.offset()), (other.name(), other.offset()));
+            assert_eq!((refusal.area(), other.area() == Area::None), (other.area(), matches!(number, 13..=17)));
             assert!(refusal.fields().eq(other.fields()));
         }
     }
@@ -412,9 +484,9 @@ mod tests {
     #[test]
     fn those_of_the_keeper_have_no_fields() {
         for number in 13..=17 {
-            let refusal = Refusal::new(number, &[7; 8]);
-            assert_eq!((refusal.fields().count(), refusal.offset()), (0, 0));
+            let refusal = Refusal::new(number, &[2; 8]);
+            assert_eq!((refusal.fields().count(), refusal.offset(), refusal.area()), (0, 0, Area::None));
         }
-        assert_eq!(Refusal::new(17, &[7; 8]), Refusal::NotOpen);
+        assert_eq!(Refusal::new(17, &[2; 8]), Refusal::NotOpen);
     }
 }

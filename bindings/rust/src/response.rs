@@ -36,10 +36,10 @@ impl<'a> TpmResponse<'a> {
     /// response code that is none, or does not go with the tag.
     ///
     /// ```
-    /// use skeinloft::{Refusal, Rules, TpmResponse};
+    /// use skeinloft::{Area, Refusal, Rules, TpmResponse};
     ///
     /// let refusal = TpmResponse::cast(Rules::STANDARD, &[0x80, 0x01, 0, 0, 0, 10, 0, 0, 0, 0xC4]).unwrap_err();
-    /// assert_eq!(refusal, Refusal::InvalidRc { offset: 6, value: 0xC4 });
+    /// assert_eq!(refusal, Refusal::InvalidRc { area: Area::Header, offset: 6, value: 0xC4 });
     /// ```
     pub fn cast(rules: Rules, bytes: &'a [u8]) -> Result<Self, Refusal> {
         ask(|out| calls::response_cast(rules.number(), bytes, out))?;
@@ -146,19 +146,19 @@ impl<'a> TpmResponse<'a> {
     /// its size.
     ///
     /// ```
-    /// use skeinloft::{Refusal, Rules, TpmCc, TpmResponse};
+    /// use skeinloft::{Area, Refusal, Rules, TpmCc, TpmResponse};
     ///
     /// // the response to TPM2_Load has a handle
     /// let response = TpmResponse::cast(Rules::STANDARD, &[0x80, 0x01, 0, 0, 0, 10, 0, 0, 0, 0])?;
     /// let refusal = response.validate(TpmCc::Load).unwrap_err();
-    /// assert_eq!(refusal, Refusal::UnexpectedEnd { offset: 10, needed: 4, available: 0 });
+    /// assert_eq!(refusal, Refusal::UnexpectedEnd { area: Area::Handles, offset: 10, needed: 4, available: 0 });
     ///
     /// // a nonce of 65 bytes
     /// let mut bytes = [0; 84];
     /// bytes[..16].copy_from_slice(&[0x80, 0x02, 0, 0, 0, 84, 0, 0, 0, 0, 0, 0, 0, 0, 0, 65]);
     /// TpmResponse::cast(Rules::RUST, &bytes)?.validate(TpmCc::Clear)?;
     /// let refusal = TpmResponse::cast(Rules::STANDARD, &bytes)?.validate(TpmCc::Clear).unwrap_err();
-    /// assert_eq!(refusal, Refusal::TooManyBytes { offset: 14, limit: 64, actual: 65 });
+    /// assert_eq!(refusal, Refusal::TooManyBytes { area: Area::Authorization, offset: 14, limit: 64, actual: 65 });
     /// # Ok::<(), Refusal>(())
     /// ```
     pub fn validate(&self, cc: TpmCc) -> Result<(), Refusal> {
@@ -258,7 +258,7 @@ impl ResponseParts<'_> {
     /// as it was.
     ///
     /// ```
-    /// use skeinloft::{Refusal, ResponseMode, Rules, TpmCc, TpmResponse};
+    /// use skeinloft::{Area, Refusal, ResponseMode, Rules, TpmCc, TpmResponse};
     ///
     /// let bytes = [0x80, 0x01, 0, 0, 0, 10, 0, 0, 0x01, 0x01];
     /// let mut parts = TpmResponse::cast(Rules::STANDARD, &bytes)?.parts(TpmCc::Unseal)?;
@@ -268,12 +268,12 @@ impl ResponseParts<'_> {
     ///
     /// parts.mode = ResponseMode::BadTag;
     /// let refusal = parts.marshal(TpmCc::Unseal, &mut room).unwrap_err();
-    /// assert_eq!(refusal, Refusal::InvalidRc { offset: 0, value: 0x101 }.into());
+    /// assert_eq!(refusal, Refusal::InvalidRc { area: Area::None, offset: 0, value: 0x101 }.into());
     /// # Ok::<(), skeinloft::WriteRefusal>(())
     /// ```
     ///
     /// ```
-    /// use skeinloft::{Refusal, ResponseMode, ResponseParts, Sessions, TpmCc, TpmRc, TpmsAuth};
+    /// use skeinloft::{Area, Refusal, ResponseMode, ResponseParts, Sessions, TpmCc, TpmRc, TpmsAuth};
     ///
     /// let mut scratch = [0; 65];
     /// let entry = TpmsAuth { hmac: &[8; 65], ..TpmsAuth::default() };
@@ -283,7 +283,7 @@ impl ResponseParts<'_> {
     /// let mut room = [0; 84];
     /// assert_eq!(cleared(ResponseMode::Rust).marshal(TpmCc::Clear, &mut room)?, 84);
     /// let refusal = cleared(ResponseMode::Standard).marshal(TpmCc::Clear, &mut room).unwrap_err();
-    /// assert_eq!(refusal, Refusal::TooManyBytes { offset: 0, limit: 64, actual: 65 }.into());
+    /// assert_eq!(refusal, Refusal::TooManyBytes { area: Area::None, offset: 0, limit: 64, actual: 65 }.into());
     /// # Ok::<(), skeinloft::WriteRefusal>(())
     /// ```
     #[doc(alias = "tpm_marshal_response")]

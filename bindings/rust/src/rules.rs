@@ -29,14 +29,14 @@ pub const MAX_DIGEST_SIZE: usize = 64;
 /// Name [`Rules::STANDARD`], or [`Rules::RUST`] to answer as software that runs tpm2-protocol does.
 ///
 /// ```
-/// use skeinloft::{Reading, Refusal, Rules, TpmResponse};
+/// use skeinloft::{Area, Reading, Refusal, Rules, TpmResponse};
 ///
 /// // what a TPM answers to a command whose tag it does not understand
 /// let answer = [0x00, 0xC4, 0, 0, 0, 10, 0, 0, 0, 0x1E];
 /// assert!(TpmResponse::cast(Rules::STANDARD, &answer).is_ok());
 ///
 /// let refusal = TpmResponse::cast(Rules { reading: Reading::Rust }, &answer).unwrap_err();
-/// assert_eq!(refusal, Refusal::InvalidTag { offset: 0, value: 0x00C4 });
+/// assert_eq!(refusal, Refusal::InvalidTag { area: Area::Header, offset: 0, value: 0x00C4 });
 /// ```
 #[derive(Clone, Copy, Debug, Default, PartialEq, Eq, Hash)]
 pub struct Rules {

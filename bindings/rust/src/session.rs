@@ -1,5 +1,6 @@
 //! Sessions: the entries of an authorization area.
 
+use crate::area::Area;
 use crate::calls::{self, Field, Handed, Session};
 use crate::refusal::{Refusal, WriteRefusal};
 use core::fmt;
@@ -153,11 +154,11 @@ impl<'a> Sessions<'a> {
     /// of more than 65,535 bytes.
     ///
     /// ```
-    /// use skeinloft::{Refusal, Sessions, TpmsAuth};
+    /// use skeinloft::{Area, Refusal, Sessions, TpmsAuth};
     ///
     /// let entry = TpmsAuth { nonce: &[7; 16], hmac: &[8; 32], ..TpmsAuth::default() };
     /// let refusal = Sessions::new(&[entry, entry], &mut [0; 64]).unwrap_err();
-    /// assert_eq!(refusal, Refusal::BufferOverflow { offset: 64, needed: 32, available: 0 }.into());
+    /// assert_eq!(refusal, Refusal::BufferOverflow { area: Area::None, offset: 64, needed: 32, available: 0 }.into());
     /// ```
     pub fn new(entries: &[TpmsAuth], room: &'a mut [u8]) -> Result<Self, WriteRefusal> {
         let mut record = calls::Sessions { count: entries.len(), ..calls::Sessions::default() };
@@ -228,7 +229,8 @@ fn lay(bytes: &[u8], taken: &mut usize, room: &mut [u8]) -> Result<Field, WriteR
     let size = u16::try_from(needed).map_err(|_| WriteRefusal::IntegerTooLarge { offset: at, value: needed as u64 })?;
     let free = &mut room[at..];
     let available = free.len();
-    let place = free.get_mut(..needed).ok_or(Refusal::BufferOverflow { offset: at, needed, available })?;
+    let place =
+        free.get_mut(..needed).ok_or(Refusal::BufferOverflow { area: Area::None, offset: at, needed, available })?;
     place.copy_from_slice(bytes);
     *taken += needed;
     Ok(Field { at, size })

@@ -24,10 +24,10 @@ impl<'a, const CAPACITY: usize> Tpm2b<'a, CAPACITY> {
     /// The first of: no two bytes for the size, a size above the capacity, fewer bytes than the size says, more.
     ///
     /// ```
-    /// use skeinloft::{Refusal, Tpm2b};
+    /// use skeinloft::{Area, Refusal, Tpm2b};
     ///
     /// let refusal = Tpm2b::<64>::cast(&[0, 65]).unwrap_err();
-    /// assert_eq!(refusal, Refusal::TooManyBytes { offset: 0, limit: 64, actual: 65 });
+    /// assert_eq!(refusal, Refusal::TooManyBytes { area: Area::None, offset: 0, limit: 64, actual: 65 });
     /// ```
     pub fn cast(bytes: &'a [u8]) -> Result<Self, Refusal> {
         ask(|out| calls::tpm2b_cast(CAPACITY, bytes, out))?;

@@ -1,8 +1,8 @@
 //! Real frames, a command and its answer a line: what passes is written again from its parts.
 
 use skeinloft::{
-    CommandParts, Refusal, ResponseMode, ResponseParts, Rules, Sessions, TpmCc, TpmCommand, TpmRc, TpmResponse, TpmSt,
-    TpmsAuth, WriteRefusal,
+    Area, CommandParts, Refusal, ResponseMode, ResponseParts, Rules, Sessions, TpmCc, TpmCommand, TpmRc, TpmResponse,
+    TpmSt, TpmsAuth, WriteRefusal,
 };
 
 const PAIRS: &str = include_str!("../../../compare/src/frame/real.txt");
@@ -47,7 +47,10 @@ fn commands_are_written_as_they_were_read() {
             }
             Err(refusal) => {
                 assert!(parts.sessions.is_empty());
-                assert_eq!(refusal, Refusal::InvalidTag { offset: 0, value: TpmSt::Sessions.value().into() }.into());
+                assert_eq!(
+                    refusal,
+                    Refusal::InvalidTag { area: Area::None, offset: 0, value: TpmSt::Sessions.value().into() }.into()
+                );
                 bare += 1;
             }
         }
@@ -112,7 +115,7 @@ fn a_cast_does_not_walk() {
     // an authorization area of five bytes, in which the nonce has half a size
     let bytes = [0x80, 0x02, 0, 0, 0, 23, 0, 0, 1, 0x5E, 0x80, 0, 0, 0, 0, 0, 0, 5, 0x40, 0, 0, 9, 0];
     let command = TpmCommand::cast(Rules::STANDARD, &bytes).expect("the areas are whole");
-    let refusal = Refusal::UnexpectedEnd { offset: 22, needed: 2, available: 1 };
+    let refusal = Refusal::UnexpectedEnd { area: Area::Authorization, offset: 22, needed: 2, available: 1 };
     assert_eq!((command.validate(), command.parts(), command.areas()), (Err(refusal), Err(refusal), Err(refusal)));
 }
 
@@ -124,7 +127,7 @@ fn four_sessions_are_not_written() {
     parts.tag = TpmSt::Sessions;
     parts.sessions = Sessions::new(&[TpmsAuth::default(); 4], &mut room).expect("there is room");
     assert_eq!(parts.sessions.iter().count(), 3);
-    let refusal = Refusal::TooManyItems { offset: 0, limit: 3, actual: 4 };
+    let refusal = Refusal::TooManyItems { area: Area::None, offset: 0, limit: 3, actual: 4 };
     assert_eq!(parts.marshal(Rules::STANDARD, &mut [0; 64]), Err(refusal.into()));
 }
 
@@ -149,7 +152,7 @@ fn a_total_of_more_than_32_bits_is_too_large() {
         assert_eq!(room, [0xFF; 12]);
         results
     };
-    let short = Refusal::BufferOverflow { offset: 0, needed: largest, available: 12 };
+    let short = Refusal::BufferOverflow { area: Area::None, offset: 0, needed: largest, available: 12 };
     assert_eq!(written(largest), [Err(short.into()); 2]);
     let large = WriteRefusal::IntegerTooLarge { offset: 0, value: 1 << 32 };
     assert_eq!(written(largest + 1), [Err(large); 2]);
@@ -165,6 +168,6 @@ fn a_nonce_or_an_hmac_of_more_than_16_bits_is_too_large() {
     let large = |offset| Err(WriteRefusal::IntegerTooLarge { offset, value: 65_536 });
     assert_eq!((taken(65_535, 16), taken(16, 65_535)), (Ok(1), Ok(1)));
     assert_eq!((taken(65_536, 16), taken(16, 65_536)), (large(0), large(16)));
-    let short = Refusal::BufferOverflow { offset: 65_535, needed: 17, available: 16 };
+    let short = Refusal::BufferOverflow { area: Area::None, offset: 65_535, needed: 17, available: 16 };
     assert_eq!(taken(65_535, 17), Err(short.into()));
 }

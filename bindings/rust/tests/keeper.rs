@@ -4,7 +4,7 @@
 #[path = "../src/calls.rs"]
 mod calls;
 
-use skeinloft::{Keeper, Refusal, Rules, TpmCc, TpmCommand, TpmRc, TpmResponse};
+use skeinloft::{Area, Keeper, Refusal, Rules, TpmCc, TpmCommand, TpmRc, TpmResponse};
 
 const HEADER: &str = include_str!("../../../include/skeinloft.h");
 const PAIRS: &str = include_str!("../../../compare/src/frame/real.txt");
@@ -17,7 +17,7 @@ const PASSWORD: u32 = 0x4000_0009;
 /// What a TPM answers to a command whose session has a wrong HMAC.
 const AUTH_FAIL: [u8; 10] = [0x80, 0x01, 0, 0, 0, 10, 0, 0, 0x09, 0x8E];
 
-const TOO_LONG: Refusal = Refusal::TooManyBytes { offset: 0, limit: 64, actual: 65 };
+const TOO_LONG: Refusal = Refusal::TooManyBytes { area: Area::None, offset: 0, limit: 64, actual: 65 };
 
 fn unhex(text: &str) -> Vec<u8> {
     let digits = text.as_bytes().chunks(2).map(|pair| std::str::from_utf8(pair).expect("digits"));
@@ -144,8 +144,8 @@ fn answers_are_refused_in_order() {
     let mut keeper = both_open();
     let twice = random(&[HMAC, POLICY, HMAC]);
     let [one, three] = [answered(&[b"1"]), answered(&[b"1", b"2", b"3"])];
-    let no_command = Refusal::InvalidCc { offset: 6, value: 0 };
-    let cut = |len| Refusal::UnexpectedEnd { offset: len, needed: 1, available: 0 };
+    let no_command = Refusal::InvalidCc { area: Area::Header, offset: 6, value: 0 };
+    let cut = |len| Refusal::UnexpectedEnd { area: Area::Header, offset: len, needed: 1, available: 0 };
     for (command, answer, due) in [
         // no command, though its answer is none either; then the answer, judged for that command
         (&one[..], &one[1..], no_command),
@@ -171,7 +171,7 @@ fn a_long_nonce_is_refused_by_its_frame() {
     let mut keeper = both_open();
     assert_eq!(keeper.answer(&random(&[HMAC]), &answered(&[&[7; 64]])), Ok(()));
     assert_eq!(keeper.nonce(HMAC), Ok(&[7; 64][..]));
-    let refusal = Refusal::TooManyBytes { offset: 17, limit: 64, actual: 65 };
+    let refusal = Refusal::TooManyBytes { area: Area::Authorization, offset: 17, limit: 64, actual: 65 };
     assert_eq!(keeper.answer(&random(&[HMAC]), &answered(&[&[8; 65]])), Err(refusal));
     assert_eq!(keeper.nonce(HMAC), Ok(&[7; 64][..]));
 }

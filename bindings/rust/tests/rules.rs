@@ -2,8 +2,8 @@
 //! nothing else.
 
 use skeinloft::{
-    CommandParts, MAX_DIGEST_SIZE, Refusal, ResponseMode, ResponseParts, Rules, Sessions, TpmCc, TpmCommand, TpmRc,
-    TpmRcBase, TpmResponse, TpmSt, TpmsAuth, WriteRefusal,
+    Area, CommandParts, MAX_DIGEST_SIZE, Refusal, ResponseMode, ResponseParts, Rules, Sessions, TpmCc, TpmCommand,
+    TpmRc, TpmRcBase, TpmResponse, TpmSt, TpmsAuth, WriteRefusal,
 };
 
 /// What a TPM answers to a command whose tag it does not understand.
@@ -19,8 +19,8 @@ fn validated(rules: Rules, cc: TpmCc, bytes: &[u8]) -> Result<(), Refusal> {
     TpmResponse::cast(rules, bytes)?.validate(cc)
 }
 
-fn no_such_tag(tag: u16) -> Refusal {
-    Refusal::InvalidTag { offset: 0, value: tag.into() }
+fn no_such_tag(area: Area, tag: u16) -> Refusal {
+    Refusal::InvalidTag { area, offset: 0, value: tag.into() }
 }
 
 #[test]
@@ -30,16 +30,16 @@ fn it_answers_every_command_in_the_standard_reading_alone() {
         assert_eq!((response.tag(), response.validate(cc)), (Ok(TpmSt::RspCommand), Ok(())), "{name}");
         let areas = response.areas(cc).expect(name);
         assert_eq!([areas.handles, areas.auth_area, areas.parameters], [10..10, 10..10, 10..10], "{name}");
-        assert_eq!(validated(Rules::RUST, cc, &BAD_TAG), Err(no_such_tag(0x00C4)), "{name}");
+        assert_eq!(validated(Rules::RUST, cc, &BAD_TAG), Err(no_such_tag(Area::Header, 0x00C4)), "{name}");
     }
-    let no_row = Refusal::InvalidCc { offset: 0, value: 0x197 };
+    let no_row = Refusal::InvalidCc { area: Area::Header, offset: 0, value: 0x197 };
     assert_eq!(validated(Rules::STANDARD, TpmCc(0x197), &BAD_TAG), Err(no_row));
 }
 
 #[test]
 fn its_tag_goes_with_its_code_alone() {
     for code in (0..0x1000).chain([0x1001E, 0x1E00_0000, u32::MAX]).filter(|&code| code != 0x1E) {
-        let refusal = Refusal::InvalidRc { offset: 6, value: code.into() };
+        let refusal = Refusal::InvalidRc { area: Area::Header, offset: 6, value: code.into() };
         let bytes = frame(0x00C4, code, 0);
         assert_eq!(TpmResponse::cast(Rules::STANDARD, &bytes), Err(refusal), "{code:#x}");
         assert_eq!(TpmResponse::cast_prefix(Rules::STANDARD, &bytes), Err(refusal), "{code:#x}");
@@ -51,10 +51,10 @@ fn it_has_nothing_behind_its_header() {
     let longer = frame(0x00C4, 0x1E, 3);
     let response = TpmResponse::cast(Rules::STANDARD, &longer).expect("a cast looks at the header");
     assert_eq!(response.rc(), Ok(TpmRc::Fmt0(TpmRcBase::BadTag)));
-    let refusal = Refusal::TrailingData { offset: 10, actual: 3 };
+    let refusal = Refusal::TrailingData { area: Area::Header, offset: 10, actual: 3 };
     assert_eq!((response.validate(TpmCc::Startup), response.parts(TpmCc::Startup)), (Err(refusal), Err(refusal)));
     // the command is judged before
-    assert_eq!(response.validate(TpmCc(0)), Err(Refusal::InvalidCc { offset: 0, value: 0 }));
+    assert_eq!(response.validate(TpmCc(0)), Err(Refusal::InvalidCc { area: Area::Header, offset: 0, value: 0 }));
 
     let bytes = [&BAD_TAG[..], &longer].concat();
     let (first, behind) = TpmResponse::cast_prefix(Rules::STANDARD, &bytes).expect("two of them");
@@ -71,7 +71,7 @@ fn all_other_frames_are_read_alike() {
                     [Rules::RUST, Rules::STANDARD].map(|rules| TpmCommand::cast(rules, &bytes)?.validate());
                 assert_eq!(rust, standard, "{bytes:x?}");
                 if tag == 0x00C4 {
-                    assert_eq!(rust, Err(no_such_tag(tag)));
+                    assert_eq!(rust, Err(no_such_tag(Area::Header, tag)));
                     continue;
                 }
                 let [rust, standard] =
@@ -106,17 +106,17 @@ fn the_writer_refuses_in_order() {
     let bad = TpmRc::Fmt0(TpmRcBase::BadTag);
     let failure = TpmRc::Fmt0(TpmRcBase::Failure);
     let unread = TpmRc::Fmt0(TpmRcBase(0x30));
-    let rc = |value| Refusal::InvalidRc { offset: 0, value };
+    let rc = |value| Refusal::InvalidRc { area: Area::None, offset: 0, value };
     for (count, cc, code, room, due) in [
-        (4, TpmCc(0), unread, 0, Refusal::TooManyItems { offset: 0, limit: 3, actual: 4 }),
-        (1, TpmCc(0), unread, 0, Refusal::InvalidCc { offset: 0, value: 0 }),
+        (4, TpmCc(0), unread, 0, Refusal::TooManyItems { area: Area::None, offset: 0, limit: 3, actual: 4 }),
+        (1, TpmCc(0), unread, 0, Refusal::InvalidCc { area: Area::None, offset: 0, value: 0 }),
         (1, TpmCc::Startup, unread, 0, rc(0x30)),
-        (1, TpmCc::Startup, failure, 0, no_such_tag(0x8002)),
-        (1, TpmCc::Startup, bad, 0, no_such_tag(0x8002)),
+        (1, TpmCc::Startup, failure, 0, no_such_tag(Area::None, 0x8002)),
+        (1, TpmCc::Startup, bad, 0, no_such_tag(Area::None, 0x8002)),
         (1, TpmCc::Startup, TpmRc::SUCCESS, 0, rc(0)),
         (0, TpmCc::Startup, TpmRc::SUCCESS, 0, rc(0)),
         (0, TpmCc::Startup, failure, 0, rc(0x101)),
-        (0, TpmCc::Startup, bad, 9, Refusal::BufferOverflow { offset: 0, needed: 10, available: 9 }),
+        (0, TpmCc::Startup, bad, 9, Refusal::BufferOverflow { area: Area::None, offset: 0, needed: 10, available: 9 }),
     ] {
         let sessions = Sessions::new(&[TpmsAuth::default(); 4][..count], &mut []).expect("they are empty");
         let parts = ResponseParts { mode: ResponseMode::BadTag, rc: code, handles: &[], sessions, parameters: &[] };
@@ -184,11 +184,11 @@ fn size_place(command: bool, start: usize, (before, field): (usize, usize)) -> u
     start + before * (handle + 12) + handle + field * 6
 }
 
-fn too_long(offset: usize, size: u16) -> Result<(), Refusal> {
+fn too_long(area: Area, offset: usize, size: u16) -> Result<(), Refusal> {
     if usize::from(size) <= MAX_DIGEST_SIZE {
         return Ok(());
     }
-    Err(Refusal::TooManyBytes { offset, limit: MAX_DIGEST_SIZE, actual: size.into() })
+    Err(Refusal::TooManyBytes { area, offset, limit: MAX_DIGEST_SIZE, actual: size.into() })
 }
 
 #[test]
@@ -197,7 +197,7 @@ fn long_fields_are_refused_in_the_standard_reading_alone() {
         for (field, size) in fields().flat_map(|field| SIZES.map(|size| (field, size))) {
             let (bytes, start) = random(command, &entries(command, &one_of(size, field)));
             assert_eq!(walked(Rules::RUST, command, &bytes), Ok(()));
-            let due = too_long(size_place(command, start, field), size);
+            let due = too_long(Area::Authorization, size_place(command, start, field), size);
             assert_eq!(walked(Rules::STANDARD, command, &bytes), due, "{command} {field:?} {size}");
         }
     }
@@ -213,9 +213,9 @@ fn a_size_is_judged_before_the_bytes_behind_it() {
                 let (bytes, start) = random(command, &whole[..place + there]);
                 let offset = start + place;
                 let needed = if there < 2 { 2 } else { 2 + usize::from(size) };
-                let short = Err(Refusal::UnexpectedEnd { offset, needed, available: there });
+                let short = Err(Refusal::UnexpectedEnd { area: Area::Authorization, offset, needed, available: there });
                 assert_eq!(walked(Rules::RUST, command, &bytes), short);
-                let due = if there < 2 { short } else { too_long(offset, size).and(short) };
+                let due = if there < 2 { short } else { too_long(Area::Authorization, offset, size).and(short) };
                 assert_eq!(walked(Rules::STANDARD, command, &bytes), due, "{command} {field:?} {size} {there}");
             }
         }
@@ -246,7 +246,11 @@ fn long_fields_are_written_by_the_rust_rules_alone() {
     for (field, size) in fields().flat_map(|field| SIZES.map(|size| (field, size))) {
         for [rust, standard] in written(&one_of(size, field), &[], &mut room) {
             assert!(rust.is_ok());
-            assert_eq!(standard, too_long(0, size).map_err(WriteRefusal::from).and(rust), "{field:?} {size}");
+            assert_eq!(
+                standard,
+                too_long(Area::None, 0, size).map_err(WriteRefusal::from).and(rust),
+                "{field:?} {size}"
+            );
         }
     }
 }
@@ -254,11 +258,11 @@ fn long_fields_are_written_by_the_rust_rules_alone() {
 #[test]
 fn the_writers_judge_each_field_in_turn() {
     let limit = MAX_DIGEST_SIZE;
-    let long = |actual| Refusal::TooManyBytes { offset: 0, limit, actual };
+    let long = |actual| Refusal::TooManyBytes { area: Area::None, offset: 0, limit, actual };
     for (sizes, handles, due) in [
         // more sessions than three, and handles that are too many, come before, and short room behind
-        (&[[65, 66]; 4][..], &[0; 4][..], Refusal::TooManyItems { offset: 0, limit: 3, actual: 4 }),
-        (&[[65, 66]], &[0; 4], Refusal::TrailingData { offset: 0, actual: 4 }),
+        (&[[65, 66]; 4][..], &[0; 4][..], Refusal::TooManyItems { area: Area::None, offset: 0, limit: 3, actual: 4 }),
+        (&[[65, 66]], &[0; 4], Refusal::TrailingData { area: Area::None, offset: 0, actual: 4 }),
         (&[[65, 66]], &[], long(65)),
         (&[[64, 66], [67, 68]], &[], long(66)),
         (&[[64, 64], [67, 68]], &[], long(67)),

@@ -3,9 +3,10 @@
 use super::call::{CALLS, Call, Kind, named};
 use super::{Frame, known};
 use crate::answer::Answer;
+use crate::area::Areas;
 use crate::by::{By, READINGS};
 use crate::calls::RUST;
-use crate::judge::Tally;
+use crate::judge::{Case, RULES, Tally};
 use crate::random::Random;
 
 pub struct Desk {
@@ -79,7 +80,8 @@ impl Desk {
                 *place = Answer::in_place(s, |s, kept, out| says(asked, by, s, number, kept, out));
             }
             let tally = By::numbered(by, READINGS) as usize;
-            if theirs.iter().flatten().all(|theirs| *theirs == ours) {
+            let mut judges = Frame::JUDGES.iter().zip(&theirs);
+            if judges.all(|(judge, theirs)| theirs.as_ref().is_none_or(|theirs| judge.agrees(&ours, theirs))) {
                 self.tallies[call][tally].agreed(&ours, theirs.iter().map(Option::is_some));
                 continue;
             }
@@ -94,6 +96,13 @@ impl Desk {
     /// How many calls were refused because a length is beyond the limit.
     pub fn too_long(&self) -> u64 {
         self.tallies.iter().flatten().map(Tally::too_long).sum()
+    }
+
+    /// Counts a mismatch for each area that no refusal has.
+    pub fn reach_all_areas(&mut self) {
+        let mut areas = Areas::default();
+        self.tallies.iter().flatten().for_each(|tally| areas += tally.areas());
+        areas.missing().for_each(|how| self.tally(named("command_validate")).differs_from(RULES, &how));
     }
 
     /// Makes every call of a kind; those that take a number take this one.

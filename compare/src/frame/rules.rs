@@ -1,5 +1,6 @@
 //! Document 01's order of checks, written out, with what document 02 adds to it for the standard reading: the answer to a
-//! bad tag, and a limit on nonces and HMACs. It has an answer for every input, also where the crate has none.
+//! bad tag, and a limit on nonces and HMACs; and with the area of each refusal, which is document 02's too. It has an
+//! answer for every input, also where the crate has none.
 //!
 //! Each public function has the shape of our call: what is lent goes in, the number comes out, the array takes the rest; the
 //! parts come by value.
@@ -9,33 +10,36 @@ mod parts;
 pub use parts::{command_parts, command_validate, response_parts, response_validate};
 
 use super::known::{self, Row};
+use crate::area::{self, Area};
 use crate::calls::{self, Out};
 use crate::report::report;
 
-/// A refusal: its number and its fields, of which 1, 6 and 8 have three and the others two.
-struct Refusal(u32, [usize; 3]);
+/// A refusal: its area, its number and its fields, of which 1, 6 and 8 have three and the others two.
+struct Refusal(Area, u32, [usize; 3]);
 
 type Read<T> = Result<T, Refusal>;
 
-fn ends(offset: usize, needed: usize, available: usize) -> Refusal {
-    Refusal(1, [offset, needed, available])
+fn ends(area: Area, offset: usize, needed: usize, available: usize) -> Refusal {
+    Refusal(area, 1, [offset, needed, available])
 }
 
-fn refusal(number: u32, offset: usize, value: usize) -> Refusal {
-    Refusal(number, [offset, value, 0])
+fn refusal(area: Area, number: u32, offset: usize, value: usize) -> Refusal {
+    Refusal(area, number, [offset, value, 0])
 }
 
 /// The answer with its numbers, or the refusal with its fields.
 fn tell<T, const N: usize>(read: Read<T>, values: impl FnOnce(T) -> [usize; N], out: &mut Out) -> u32 {
     match read {
-        Ok(answer) => put(0, &values(answer), out),
-        Err(Refusal(number @ (1 | 6 | 8), fields)) => put(number, &fields, out),
-        Err(Refusal(number, fields)) => put(number, &fields[..2], out),
+        Ok(answer) => give(&values(answer), out),
+        Err(Refusal(area, number, fields)) => {
+            let count = if matches!(number, 1 | 6 | 8) { 3 } else { 2 };
+            area::refuse(area, number, fields.iter().take(count).map(|&field| field as u64), out)
+        }
     }
 }
 
-fn put(number: u32, values: &[usize], out: &mut Out) -> u32 {
-    report(number, values.iter().map(|&value| value as u64), out)
+fn give(values: &[usize], out: &mut Out) -> u32 {
+    report(0, values.iter().map(|&value| value as u64), out)
 }
 
 const HEADER: usize = 10;
@@ -60,7 +64,7 @@ fn reading(by: u32) -> Read<Reading> {
     match by {
         calls::RUST => Ok(Reading::Rust),
         calls::STANDARD => Ok(Reading::Standard),
-        _ => Err(refusal(101, 0, by as usize)),
+        _ => Err(refusal(Area::None, 101, 0, by as usize)),
     }
 }
 
@@ -96,43 +100,44 @@ fn code_field(s: &[u8]) -> u32 {
 // ---- the table
 
 pub fn table_find(code: u32, out: &mut Out) -> u32 {
-    tell(row_of(code), |row| [row.handles, row.responses], out)
+    tell(row_of(Area::None, code), |row| [row.handles, row.responses], out)
 }
 
 pub fn table_known(code: u32, out: &mut Out) -> u32 {
-    put(0, &[known::row(code).is_some().into()], out)
+    give(&[known::row(code).is_some().into()], out)
 }
 
 pub fn tag_known(tag: u16, out: &mut Out) -> u32 {
-    put(0, &[known::is_tag(tag).into()], out)
+    give(&[known::is_tag(tag).into()], out)
 }
 
-fn row_of(code: u32) -> Read<Row> {
-    known::row(code).ok_or(refusal(4, 0, code as usize))
+/// The row of a code that is no part of the bytes: there need be no frame.
+fn row_of(area: Area, code: u32) -> Read<Row> {
+    known::row(code).ok_or(refusal(area, 4, 0, code as usize))
 }
 
 // ---- fields
 
 /// What every field read and setter, area read and `body` asks first.
 fn header(s: &[u8]) -> Read<()> {
-    if s.len() < HEADER { Err(ends(0, HEADER, s.len())) } else { Ok(()) }
+    if s.len() < HEADER { Err(ends(Area::Header, 0, HEADER, s.len())) } else { Ok(()) }
 }
 
 /// A tag that `TpmSt` has.
 fn known_tag(tag: usize) -> Read<usize> {
-    if known::is_tag(tag as u16) { Ok(tag) } else { Err(refusal(3, 0, tag)) }
+    if known::is_tag(tag as u16) { Ok(tag) } else { Err(refusal(Area::Header, 3, 0, tag)) }
 }
 
 /// A code that `TpmCc` has. Each has a row, so a code that is known but has none does not occur.
 fn known_code(code: u32) -> Read<Row> {
-    known::row(code).ok_or(refusal(4, 6, code as usize))
+    known::row(code).ok_or(refusal(Area::Header, 4, 6, code as usize))
 }
 
 /// A code that reads in a response of this tag. In the answer to a bad tag its own code does and no other, whether or not
 /// it is known.
 fn readable(reading: Reading, tag: usize, offset: usize, code: u32) -> Read<u32> {
     let reads = if reading.gives_to_bad_tag(tag) { code == BAD_TAG } else { known::reads(code) };
-    if reads { Ok(code) } else { Err(refusal(5, offset, code as usize)) }
+    if reads { Ok(code) } else { Err(refusal(Area::Header, 5, offset, code as usize)) }
 }
 
 pub fn frame_tag(s: &[u8], out: &mut Out) -> u32 {
@@ -145,11 +150,11 @@ pub fn frame_size(s: &[u8], out: &mut Out) -> u32 {
 }
 
 pub fn frame_len(s: &[u8], out: &mut Out) -> u32 {
-    put(0, &[s.len()], out)
+    give(&[s.len()], out)
 }
 
 pub fn frame_is_empty(s: &[u8], out: &mut Out) -> u32 {
-    put(0, &[s.is_empty().into()], out)
+    give(&[s.is_empty().into()], out)
 }
 
 pub fn command_cc(by: u32, s: &[u8], out: &mut Out) -> u32 {
@@ -175,7 +180,7 @@ pub fn frame_set_tag(s: &mut [u8], tag: u16, out: &mut Out) -> u32 {
 }
 
 pub fn command_set_cc(by: u32, s: &mut [u8], code: u32, out: &mut Out) -> u32 {
-    let set = reading(by).and_then(|_| header(s)).and_then(|()| row_of(code));
+    let set = reading(by).and_then(|_| header(s)).and_then(|()| row_of(Area::Header, code));
     tell(set.map(|_| s[6..10].copy_from_slice(&code.to_be_bytes())), |()| [], out)
 }
 
@@ -191,16 +196,16 @@ fn prefix(s: &[u8]) -> Read<(&[u8], &[u8])> {
     header(s)?;
     let size = number(s, 2, 4);
     if size < HEADER {
-        return Err(ends(2, HEADER, size));
+        return Err(ends(Area::Header, 2, HEADER, size));
     }
-    s.split_at_checked(size).ok_or(ends(s.len(), size - s.len().min(size), 0))
+    s.split_at_checked(size).ok_or(ends(Area::Header, s.len(), size - s.len().min(size), 0))
 }
 
 /// The tag, one of the two.
 fn frame_tag_of(frame: &[u8]) -> Read<usize> {
     match tag_field(frame) {
         tag @ (PLAIN | SESSIONS) => Ok(tag),
-        tag => Err(refusal(3, 0, tag)),
+        tag => Err(refusal(Area::Header, 3, 0, tag)),
     }
 }
 
@@ -215,17 +220,17 @@ fn response_tag_of(reading: Reading, frame: &[u8]) -> Read<usize> {
 /// Where so many handles end.
 fn handles_end(s: &[u8], handles: usize) -> Read<usize> {
     let (needed, left) = (4 * handles, s.len() - HEADER);
-    if left < needed { Err(ends(HEADER, needed, left)) } else { Ok(HEADER + needed) }
+    if left < needed { Err(ends(Area::Handles, HEADER, needed, left)) } else { Ok(HEADER + needed) }
 }
 
-/// The bytes whose 4-byte size stands at a place: where they start and end.
-fn sized(s: &[u8], at: usize) -> Read<(usize, usize)> {
+/// The bytes of an area whose 4-byte size stands at a place: where they start and end.
+fn sized(area: Area, s: &[u8], at: usize) -> Read<(usize, usize)> {
     let left = s.len() - at;
     if left < 4 {
-        return Err(ends(at, 4, left));
+        return Err(ends(area, at, 4, left));
     }
     let size = number(s, at, 4);
-    if left - 4 < size { Err(ends(at + 4, size, left - 4)) } else { Ok((at + 4, at + 4 + size)) }
+    if left - 4 < size { Err(ends(area, at + 4, size, left - 4)) } else { Ok((at + 4, at + 4 + size)) }
 }
 
 /// Where the handles of a command end. All bytes are taken, whatever the size field says.
@@ -240,7 +245,7 @@ fn command_areas(s: &[u8]) -> Read<(usize, usize, usize)> {
     if known_tag(tag_field(s))? != SESSIONS {
         return Ok((handles, handles, handles));
     }
-    let (from, to) = sized(s, handles)?;
+    let (from, to) = sized(Area::Authorization, s, handles)?;
     Ok((handles, from, to))
 }
 
@@ -267,7 +272,7 @@ type Taken = fn(&[u8]) -> Read<&[u8]>;
 
 fn whole(s: &[u8]) -> Read<&[u8]> {
     let (frame, tail) = prefix(s)?;
-    if tail.is_empty() { Ok(frame) } else { Err(refusal(2, frame.len(), tail.len())) }
+    if tail.is_empty() { Ok(frame) } else { Err(refusal(Area::Header, 2, frame.len(), tail.len())) }
 }
 
 fn first(s: &[u8]) -> Read<&[u8]> {

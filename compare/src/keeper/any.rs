@@ -13,6 +13,7 @@ use super::lent::{Lent, UNHARMED, WORDS};
 use super::step::NAMES;
 use super::{Pair, Step};
 use crate::answer::{Answer, Hex, Said};
+use crate::area::Area;
 use crate::calls::{self, Keeper};
 use crate::judge::{Case, Judge, TOO_LARGE, Tally};
 use crate::random::Random;
@@ -105,22 +106,22 @@ impl Any {
 
     /// What a call that does not ask for a nonce can come to, on a keeper with so many sessions.
     fn can_be_said(&self, len: u64) -> Vec<Said> {
-        let done = says(0, &[]);
+        let done = gives(&[]);
         match &self.step {
             Step::New => vec![done],
             Step::Open(_, nonce) if nonce.len() as u64 > LONGEST => {
-                vec![says(15, &[]), says(8, &[0, LONGEST, nonce.len() as u64])]
+                vec![refuses(15, &[]), refuses(8, &[0, LONGEST, nonce.len() as u64])]
             }
-            Step::Open(..) => vec![done, says(15, &[]), says(16, &[])],
+            Step::Open(..) => vec![done, refuses(15, &[]), refuses(16, &[])],
             Step::Answer(..) => match Pair::by_rules(&self.step) {
                 Pair::CommandRefused(said) | Pair::ResponseRefused(said) => vec![said],
-                Pair::Success(named, given) if named.count != given.count => vec![says(13, &[]), says(14, &[])],
-                Pair::Success(..) => vec![done, says(13, &[])],
+                Pair::Success(named, given) if named.count != given.count => vec![refuses(13, &[]), refuses(14, &[])],
+                Pair::Success(..) => vec![done, refuses(13, &[])],
                 Pair::Error | Pair::None => vec![done],
             },
-            Step::Close(_) => vec![done, says(17, &[])],
-            Step::Ask(_) => vec![says(17, &[])],
-            Step::Len => vec![says(0, &[len])],
+            Step::Close(_) => vec![done, refuses(17, &[])],
+            Step::Ask(_) => vec![refuses(17, &[])],
+            Step::Len => vec![gives(&[len])],
         }
     }
 
@@ -130,9 +131,16 @@ impl Any {
     }
 }
 
-fn says(number: u32, values: &[u64]) -> Said {
+fn gives(values: &[u64]) -> Said {
     let mut said = Said::NOTHING;
-    said.refuses(number, values);
+    said.gives(values);
+    said
+}
+
+/// A refusal of the keeper's own, which is in no area.
+fn refuses(number: u32, fields: &[u64]) -> Said {
+    let mut said = Said::NOTHING;
+    said.refuses(Area::None, number, fields);
     said
 }
 

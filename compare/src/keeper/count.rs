@@ -4,6 +4,7 @@
 use super::kept::{Kept, LONGEST, PLACES, handles};
 use super::step::{ANSWER, NAMES, OPEN};
 use super::{Pair, Step};
+use crate::area::Areas;
 use crate::calls::Sessions;
 use crate::frame::make::{self, PLAIN};
 use std::collections::{BTreeMap, BTreeSet};
@@ -50,6 +51,8 @@ pub struct Count {
     asked: u64,
     numbers: [BTreeMap<u32, u64>; NAMES.len()],
     at_once: BTreeMap<Vec<u32>, u64>,
+    /// The answers that are refused.
+    areas: Areas,
     reached: [u64; REACHED.len()],
     /// Nonces moved, by their size.
     sizes: BTreeMap<u16, u64>,
@@ -65,7 +68,8 @@ impl Count {
 
     /// Counts a call by what the keeper of document 02 has before it, and the handles that are asked for behind it.
     pub fn add(&mut self, kept: &Kept, step: &Step, pair: &Pair, watched: usize) {
-        let number = kept.judge(step, pair).number();
+        let said = kept.judge(step, pair);
+        let number = said.number();
         *self.numbers[step.call()].entry(number).or_default() += 1;
         let refusals = kept.refusals(step, pair);
         if refusals.len() > 1 {
@@ -73,6 +77,9 @@ impl Count {
         }
         if number == 0 && !step.asks() {
             self.asked += watched as u64;
+        }
+        if step.call() == ANSWER {
+            said.area().into_iter().for_each(|area| self.areas.add(area, 1));
         }
         match (step, pair) {
             (Step::Open(handle, _), _) if number == 0 => self.opened(kept, *handle),
@@ -158,12 +165,13 @@ impl Count {
         let at_once = AT_ONCE.iter().filter(|refusals| !self.at_once.contains_key(**refusals));
         let call = |refusals: &[u32]| if refusals.contains(&13) { ANSWER } else { OPEN };
         let at_once = at_once.map(|refusals| (call(refusals), format!("{refusals:?} are never true at once")));
+        let areas = self.areas.missing().map(|how| (ANSWER, how));
         let reached = self.reached.iter().zip(REACHED).enumerate().filter(|(_, (times, _))| **times == 0);
         let call = |at: usize| if at >= Reached::Full as usize { OPEN } else { ANSWER };
         let reached = reached.map(|(at, (_, what))| (call(at), format!("there are no {what}")));
         let sizes = (0..=LONGEST).filter(|size| !self.sizes.contains_key(&(*size as u16)));
         let sizes = sizes.map(|size| (ANSWER, format!("no nonce of {size} bytes is moved to")));
-        numbers.chain(at_once).chain(reached).chain(sizes).collect()
+        numbers.chain(at_once).chain(areas).chain(reached).chain(sizes).collect()
     }
 }
 

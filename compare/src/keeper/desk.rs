@@ -8,7 +8,7 @@ use crate::answer::Answer;
 use crate::frame::{Call, Says};
 use crate::judge::Tally;
 
-/// The judges of frames but for the last, which is document 01's rules.
+/// The judges of frames but for the last, which is document 01's rules: these name no areas.
 const OTHERS: &[Says] = Call::JUDGES.split_last().expect("the rules are there").1;
 
 pub struct Desk {
@@ -66,7 +66,8 @@ impl Desk {
         self.kept.tell(&step, right.number(), watched, theirs);
         let others: Vec<Option<Pair>> =
             OTHERS.iter().map(|judge| Pair::of(&step, *judge).filter(Pair::is_some)).collect();
-        let same = self.ours.said == right && ours == theirs && others.iter().flatten().all(|other| *other == pair);
+        let alike = others.iter().flatten().all(|other| other.is_but_for_area(&pair));
+        let same = self.ours.said == right && ours == theirs && alike;
         let call = step.call();
         self.run.steps.push(step);
         if same {

@@ -4,6 +4,7 @@
 use super::lent::UNHARMED;
 use super::{Pair, Step};
 use crate::answer::Said;
+use crate::area::Area;
 use crate::calls::{Field, Sessions};
 use std::collections::BTreeMap;
 
@@ -50,13 +51,14 @@ impl Kept {
         (0..named.count).any(again)
     }
 
-    /// The answer to a call, which has not changed anything yet.
+    /// The answer to a call, which has not changed anything yet. A frame's refusal is passed on with its area, and the
+    /// keeper's own have none.
     pub fn judge(&self, step: &Step, pair: &Pair) -> Said {
         let mut said = Said::NOTHING;
         match (pair, self.refusals(step, pair).first(), step) {
             (Pair::CommandRefused(refused) | Pair::ResponseRefused(refused), _, _) => said = *refused,
-            (_, Some(8), Step::Open(_, nonce)) => said.refuses(8, &[0, LONGEST, nonce.len() as u64]),
-            (_, Some(&number), _) => said.refuses(number, &[]),
+            (_, Some(8), Step::Open(_, nonce)) => said.refuses(Area::None, 8, &[0, LONGEST, nonce.len() as u64]),
+            (_, Some(&number), _) => said.refuses(Area::None, number, &[]),
             (_, None, Step::Len) => said.gives(&[self.len() as u64]),
             // the second number stands for the nonce's place
             (_, None, Step::Ask(handle)) => said.gives(&[self.open[handle].len() as u64, 0]),

@@ -38,6 +38,15 @@ impl Pair {
         Self::of(step, Call::by_rules).expect("the rules speak about every frame")
     }
 
+    /// Whether a judge that names no areas takes the frames apart alike.
+    pub fn is_but_for_area(&self, other: &Self) -> bool {
+        match (self, other) {
+            (Self::CommandRefused(one), Self::CommandRefused(other))
+            | (Self::ResponseRefused(one), Self::ResponseRefused(other)) => one.is_but_for_area(other),
+            _ => self == other,
+        }
+    }
+
     /// Whether the command is refused, and the response to it would be by something else, whatever the command.
     pub fn is_refused_twice(&self, response: &[u8]) -> bool {
         let Self::CommandRefused(refused) = self else {

@@ -2,8 +2,9 @@
 //! 01's rules. Codes that can read, and many that cannot, are held to both.
 
 use crate::answer::{Answer, Said};
+use crate::area::Area;
 use crate::frame::known;
-use crate::judge::{self, Case, Judge, PRINTED, TOO_LARGE, Tally};
+use crate::judge::{self, Case, Judge, PRINTED, RULES, TOO_LARGE, Tally};
 use crate::random::Random;
 use crate::{calls, shrink};
 use std::fmt;
@@ -65,7 +66,7 @@ fn crate_says(code: u32, said: &mut Said) {
 fn document_says(code: u32, said: &mut Said) {
     let (warning, fmt1, parameter, n) = (code & 0x800 != 0, code & 0x80 != 0, code & 0x40 != 0, code >> 8 & 15);
     let (kind, base, index) = match n {
-        _ if !known::reads(code) => return said.refuses(5, &[0, code.into()]),
+        _ if !known::reads(code) => return said.refuses(Area::None, 5, &[0, code.into()]),
         _ if !fmt1 => (u64::from(warning), code, 0),
         _ if parameter => (3, 0x80 | code & 0x3F, n),
         0 => (2, code, 0),
@@ -94,6 +95,9 @@ struct Found {
     calls: u64,
     /// The codes that read, kind by kind.
     readable: [u64; KINDS],
+    /// The others on which we agree, and those of them that have an area, where there is no frame.
+    refused: u64,
+    in_area: u64,
     mismatches: u64,
     /// The first codes that differ: they are reported when all threads are done.
     first: Vec<u32>,
@@ -104,6 +108,9 @@ impl Found {
         if said.number() == 0 {
             let kind = said.values().next().expect("a code that reads has a kind");
             self.readable[kind as usize] += 1;
+        } else {
+            self.refused += 1;
+            self.in_area += u64::from(said.area() != Some(Area::None));
         }
     }
 
@@ -116,6 +123,8 @@ impl Found {
 
     fn merge(mut self, other: Self) -> Self {
         self.calls += other.calls;
+        self.refused += other.refused;
+        self.in_area += other.in_area;
         self.mismatches += other.mismatches;
         self.first.extend(other.first);
         for (mine, more) in self.readable.iter_mut().zip(other.readable) {
@@ -133,7 +142,7 @@ fn sweep(codes: impl Iterator<Item = u32>) -> Found {
         let (mut we, mut they) = (Said::NOTHING, Said::NOTHING);
         ours(code, &mut we);
         theirs(code, &mut they);
-        if we == they && we.number() != TOO_LARGE { found.agreed(&we) } else { found.differed(code) }
+        if we.is_but_for_area(&they) && we.number() != TOO_LARGE { found.agreed(&we) } else { found.differed(code) }
     }
     found
 }
@@ -164,7 +173,11 @@ pub fn run(thin: bool) -> Tally {
         tally.check(&Read { code });
     }
     let again = high.first.len() as u64;
-    tally.add(high.calls - again, high.mismatches - again);
+    tally.add(high.calls - again, high.mismatches - again, high.refused);
+    if high.in_area > 0 {
+        let how = format!("{} codes from {DENSE} on are refused in an area, and there is no frame", high.in_area);
+        tally.differs_from(RULES, &how);
+    }
     let readable = sweep(0..DENSE).merge(high).readable;
     if tally.count().mismatches == 0 && readable != READABLE {
         tally.differs_in_all(&format!("the codes that read are, by kind, {readable:?}, not {READABLE:?}"));

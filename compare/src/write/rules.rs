@@ -1,6 +1,7 @@
 //! Document 01's order of checks from "Command writer" on, written out, with what document 02 adds to it for the standard
 //! mode: the answer to a bad tag, and a limit on nonces and HMACs. It has an answer for every input.
 
+use crate::area::{self, Area};
 use crate::by::{MODES, READINGS};
 use crate::calls::{Field, Handed, Out, RUST, STANDARD_BAD_TAG, Session};
 use crate::frame::known::{self, Row};
@@ -158,13 +159,13 @@ fn fitting(total: usize, room: usize) -> Judged<usize> {
     if total > room { Err(Refusal(9, [0, total as u64, room as u64])) } else { Ok(total) }
 }
 
-/// The total that was written, or the refusal with its fields.
+/// The total that was written, or the refusal with its fields; a writer has no frame yet, and so no area of it.
 fn tell(written: Judged<usize>, out: &mut Out) -> u32 {
     match written {
         Ok(total) => report(0, [total as u64], out),
         Err(Refusal(number, fields)) => {
             let count = if matches!(number, 1 | 6 | 8 | 9) { 3 } else { 2 };
-            report(number, fields.into_iter().take(count), out)
+            area::refuse(Area::None, number, fields.into_iter().take(count), out)
         }
     }
 }

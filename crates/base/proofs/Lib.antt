@@ -8,7 +8,7 @@ pub mod HandingBy
 pub mod Laid
 pub mod Lending
 pub mod Lists
-pub mod Never
+pub mod Only
 pub mod Parts
 pub mod Places
 pub mod Refusals

@@ -11,6 +11,8 @@ use Rattle.base.proofs.code.TpmCc.refused.Kinds as TpmCc-refused-kinds
 use Rattle.base.proofs.code.TpmCc.refused.Reads as TpmCc-refused-reads
 use Rattle.base.proofs.code.TpmRc.refused.Kinds as TpmRc-refused-kinds
 use Rattle.base.proofs.code.TpmRc.refused.Reads as TpmRc-refused-reads
+use Rattle.base.proofs.error.Area.number.Kinds as area-number-kinds
+use Rattle.base.proofs.error.Area.number.Reads as area-number-reads
 use Rattle.base.proofs.field.left.Kinds as left-kinds
 use Rattle.base.proofs.field.left.Reads as left-reads
 use Rattle.base.proofs.field.be16.Kinds as be16-kinds
@@ -42,6 +44,9 @@ TpmCc-refused κs a x y v w p q = (numbered-injective x y (p ∙ sym q), refl)
 
 TpmRc-refused : Single 0 TpmRc-refused-kinds.ps TpmRc-refused-kinds.r TpmRc-refused-reads.Post
 TpmRc-refused κs a x y v w p q = (numbered-injective x y (p ∙ sym q), refl)
+
+area-number : Single 0 area-number-kinds.ps area-number-kinds.r area-number-reads.Post
+area-number κs a x y v w p q = (p ∙ sym q, refl)
 
 left : Single 0 left-kinds.ps left-kinds.r left-reads.Post
 left κs a x y v w p q = (p ∙ sym q, refl)

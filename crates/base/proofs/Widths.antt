@@ -7,24 +7,25 @@ use native.Mathlib.Omega.{arith}
 use borrow.Author.Tests.{le-leb, lt-leb}
 use lib.ListN.{length, take, drop}
 use lib.Seq.{sets, take-at}
+use Rattle.base.specs.declared.error.Area.{Area}
 use Rattle.base.specs.Bytes.{number, bytes}
-use Rattle.base.specs.Said.{gives, refuses, done, after}
+use Rattle.base.specs.Said.{inArea, noArea, gives, refuses, within, done, after}
 use Rattle.base.specs.Field.{readField, writeField, laid, writeBytes}
 use Rattle.base.proofs.Bytes.{length-bytes}
 use Rattle.base.proofs.Lists.{span, take-drop-span, stored}
 
 module _ (w place : ℕ) (s : List ℕ) where
-  pub read-short : (left : ℕ) → left ≡ length s - place → left < w → refuses (1 ∷ place ∷ w ∷ left ∷ []) ≡ readField w place s
-  read-short left e h = simp (lt-leb w (length s - place) (omega arith)) (ap (λ (k : ℕ). refuses (1 ∷ place ∷ w ∷ k ∷ [])) e)
+  pub read-short : (area : Area) (left : ℕ) → left ≡ length s - place → left < w → refuses (inArea area (1 ∷ place ∷ w ∷ left ∷ [])) ≡ within area (readField w place s)
+  read-short area left e h = simp (lt-leb w (length s - place) (omega arith)) (ap (λ (k : ℕ). refuses (inArea area (1 ∷ place ∷ w ∷ k ∷ []))) e)
 
-  pub read-whole : w ≤ length s - place → gives (number (span s place w)) ≡ readField w place s
-  read-whole h = simp (le-leb w (length s - place) h) (ap (λ (t : List ℕ). gives (number t)) (sym (take-drop-span w place s h)))
+  pub read-whole : (area : Area) → w ≤ length s - place → gives (number (span s place w)) ≡ within area (readField w place s)
+  read-whole area h = simp (le-leb w (length s - place) h) (ap (λ (t : List ℕ). gives (number t)) (sym (take-drop-span w place s h)))
 
   module _ (n : ℕ) where
     pub write-short : (left : ℕ) → left ≡ length s - place → left < w
-        → (refuses (9 ∷ place ∷ w ∷ left ∷ []) ≡ done (writeField w place n s)) × (s ≡ after s (writeField w place n s))
+        → (refuses (noArea (9 ∷ place ∷ w ∷ left ∷ [])) ≡ done (writeField w place n s)) × (s ≡ after s (writeField w place n s))
     write-short left e h = (
-      simp (lt-leb w (length s - place) (omega arith)) (ap (λ (k : ℕ). refuses (9 ∷ place ∷ w ∷ k ∷ [])) e),
+      simp (lt-leb w (length s - place) (omega arith)) (ap (λ (k : ℕ). refuses (noArea (9 ∷ place ∷ w ∷ k ∷ []))) e),
       simp (lt-leb w (length s - place) (omega arith)),
     )
 
@@ -39,9 +40,9 @@ module _ (w place : ℕ) (s : List ℕ) where
 
 module _ (place : ℕ) (t s : List ℕ) where
   pub bytes-short : (left : ℕ) → left ≡ length s - place → left < length t
-      → (refuses (9 ∷ place ∷ length t ∷ left ∷ []) ≡ done (writeBytes place t s)) × (s ≡ after s (writeBytes place t s))
+      → (refuses (noArea (9 ∷ place ∷ length t ∷ left ∷ [])) ≡ done (writeBytes place t s)) × (s ≡ after s (writeBytes place t s))
   bytes-short left e h = (
-    simp (lt-leb (length t) (length s - place) (omega arith)) (ap (λ (k : ℕ). refuses (9 ∷ place ∷ length t ∷ k ∷ [])) e),
+    simp (lt-leb (length t) (length s - place) (omega arith)) (ap (λ (k : ℕ). refuses (noArea (9 ∷ place ∷ length t ∷ k ∷ []))) e),
     simp (lt-leb (length t) (length s - place) (omega arith)),
   )
 

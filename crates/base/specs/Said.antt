@@ -1,4 +1,4 @@
--- An answer of document 01, and how an order of checks is put together, a line a check.
+-- An answer of document 01, and how an order of checks is put together, a line a check: each says its refusal's area (document 02, W2) and number.
 -- Assumes nothing: these are definitions.
 use Prim.Native.Nat.{ℕ}
 use mathlib.Core.Path.{_≡_}
@@ -6,14 +6,35 @@ use mathlib.Core.List.{List}
 use mathlib.Core.Bool.{Bool, true, false}
 use lib.Dec.{eqb}
 use lib.ListN.{getD}
+use Rattle.base.specs.declared.error.Area.{Area}
+use Rattle.base.specs.declared.error.Area.the-variants.{None}
 
--- what was asked for, or a refusal: its number, then its fields
+-- a refusal: the area of the frame that it speaks of, and its number, then its fields
+pub record Why : Type 0 where
+  pub area : Area
+  pub numbers : List ℕ
+
+abbrev pub inArea : Area → List ℕ → Why
+inArea area numbers = record { area = area; numbers = numbers }
+
+-- that of a writer, or of a call without a frame
+abbrev pub noArea : List ℕ → Why
+noArea = inArea None
+
+-- every refusal has a number; those up to 9 have an offset next
+abbrev pub numberOf : Why → ℕ
+numberOf why = getD (why .numbers) 0 0
+
+abbrev pub offsetOf : Why → ℕ
+offsetOf why = getD (why .numbers) 1 0
+
+-- what was asked for, or a refusal
 pub data Said (A : Type 0) : Type 0 where
   gives : A → Said A
-  refuses : List ℕ → Said A
+  refuses : Why → Said A
 
 -- one check: where the test holds, what follows; else the refusal
-abbrev pub needs : {A : Type 0} → Bool → List ℕ → Said A → Said A
+abbrev pub needs : {A : Type 0} → Bool → Why → Said A → Said A
 needs true why rest = rest
 needs false why rest = refuses why
 
@@ -21,6 +42,11 @@ needs false why rest = refuses why
 abbrev pub then : {A B : Type 0} → Said A → (A → Said B) → Said B
 then (gives a) f = f a
 then (refuses why) f = refuses why
+
+-- a step that has no frame of its own, taken in an area of one
+abbrev pub within : {A : Type 0} → Area → Said A → Said A
+within area (gives a) = gives a
+within area (refuses why) = refuses (inArea area (why .numbers))
 
 -- whether something is given
 abbrev pub given : {A : Type 0} → Said A → Bool
@@ -37,10 +63,12 @@ abbrev pub after : {A : Type 0} → A → Said A → A
 after old (gives new) = new
 after old (refuses why) = old
 
--- whether it is a refusal by a number, and that an answer never is (document 02, W7)
-abbrev pub refusesBy : {A : Type 0} → ℕ → Said A → Bool
-refusesBy n (gives a) = false
-refusesBy n (refuses why) = eqb (getD why 0 0) n
+-- an answer all of whose refusals are of a kind; so that none has a number (document 02, W7)
+pub record Only {A : Type 0} (kind : Why → Type 0) (said : Said A) : Type 0 where
+  pub each : (why : Why) → said ≡ refuses why → kind why
 
-pub record Never {A : Type 0} (n : ℕ) (said : Said A) : Type 0 where
-  pub other : refusesBy n said ≡ false
+abbrev pub otherThan : ℕ → Why → Type 0
+otherThan n why = eqb (numberOf why) n ≡ false
+
+abbrev pub Never : {A : Type 0} → ℕ → Said A → Type 0
+Never n said = Only (otherThan n) said

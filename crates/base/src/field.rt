@@ -1,16 +1,18 @@
 // Big-endian fields of 16 and 32 bits, read from and written to a place of a lent slice, and bytes copied to one. Every
-// slice and every place is taken: where the bytes are not there, the answer is the refusal and nothing is touched.
+// slice and every place is taken: where the bytes are not there, the answer is the refusal and nothing is touched. A read
+// is told the area of the frame that it is in.
 ghost use mathlib.Core.Path.{_≡_};
 ghost use mathlib.Core.List.{[], _∷_};
 ghost use Prim.Native.Nat.{_-_, _≤_};
 ghost use lib.ListN.{length};
 ghost use Rattle.base.specs.Bytes.{number};
-ghost use Rattle.base.specs.Said.{after, done};
+ghost use Rattle.base.specs.Said.{after, done, within};
 ghost use Rattle.base.specs.Answer.{saidNumber16, saidNumber32, saidOutcome};
 ghost use Rattle.base.specs.Field.{laid, readField, writeBytes, writeField};
 use crate::answer::Number16;
 use crate::answer::Number32;
 use crate::answer::Outcome;
+use crate::error::Area;
 use crate::error::TpmError;
 
 // How many of len bytes stand at a place and behind it.
@@ -34,12 +36,13 @@ pub fn be32(a: u8, b: u8, c: u8, d: u8) -> u32
     (be16(a, b) as u32) * 65536 + (be16(c, d) as u32)
 }
 
-pub fn read_u16(s: &[u8], place: usize) -> Number16
-    ensures { λ r. ⌜ saidNumber16 r ≡ readField 2 place (now (s .entry)) ⌝ }
+pub fn read_u16(area: Area, s: &[u8], place: usize) -> Number16
+    ensures { λ r. ⌜ saidNumber16 r ≡ within area (readField 2 place (now (s .entry))) ⌝ }
 {
     let left = left(s.len(), place);
     if left < 2 {
         return Number16::Refused(TpmError::UnexpectedEnd {
+            area,
             offset: place,
             needed: 2,
             available: left,
@@ -48,12 +51,13 @@ pub fn read_u16(s: &[u8], place: usize) -> Number16
     Number16::Is(be16(s[place], s[place + 1]))
 }
 
-pub fn read_u32(s: &[u8], place: usize) -> Number32
-    ensures { λ r. ⌜ saidNumber32 r ≡ readField 4 place (now (s .entry)) ⌝ }
+pub fn read_u32(area: Area, s: &[u8], place: usize) -> Number32
+    ensures { λ r. ⌜ saidNumber32 r ≡ within area (readField 4 place (now (s .entry))) ⌝ }
 {
     let left = left(s.len(), place);
     if left < 4 {
         return Number32::Refused(TpmError::UnexpectedEnd {
+            area,
             offset: place,
             needed: 4,
             available: left,
@@ -69,6 +73,7 @@ pub fn write_u16(s: &mut [u8], place: usize, n: u16) -> Outcome
     let left = left(s.len(), place);
     if left < 2 {
         return Outcome::Refused(TpmError::BufferOverflow {
+            area: Area::None,
             offset: place,
             needed: 2,
             available: left,
@@ -86,6 +91,7 @@ pub fn write_u32(s: &mut [u8], place: usize, n: u32) -> Outcome
     let left = left(s.len(), place);
     if left < 4 {
         return Outcome::Refused(TpmError::BufferOverflow {
+            area: Area::None,
             offset: place,
             needed: 4,
             available: left,
@@ -123,6 +129,7 @@ pub fn write_bytes(s: &mut [u8], place: usize, t: &[u8]) -> Outcome
     let len = t.len();
     if left < len {
         return Outcome::Refused(TpmError::BufferOverflow {
+            area: Area::None,
             offset: place,
             needed: len,
             available: left,

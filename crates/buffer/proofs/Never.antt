@@ -6,7 +6,7 @@ use Prim.Native.Nat.{ℕ, _-_}
 use lib.Dec.{leb}
 use lib.ListN.{length}
 use Rattle.base.specs.Said.{Said, Never}
-use Rattle.base.proofs.Never.{by-gives, by-needs, by-then, by-step}
+use Rattle.base.proofs.Only.{by-gives, by-needs, by-then, by-step}
 use Rattle.buffer.specs.Fixed.{Buffer, judged, grown, extended, wireLength, emitted, equal, unmarshalled}
 use Rattle.buffer.specs.View.{readSize, prefix, whole, dataRange, isEmpty}
 

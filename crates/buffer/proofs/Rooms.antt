@@ -11,7 +11,7 @@ use lib.Dec.{eqb, leb}
 use lib.ListN.{length, take, drop, set, replicate, length-drop}
 use lib.Seq.{length-take-le, drop-append-add, drop-drop}
 use Rattle.base.specs.Bytes.{bytes}
-use Rattle.base.specs.Said.{Said, gives, refuses, after, done, then}
+use Rattle.base.specs.Said.{Why, noArea, Said, gives, refuses, after, done, then}
 use Rattle.base.specs.Tpm2b.{tpm2b}
 use Rattle.base.proofs.Bytes.{two-bytes}
 use Rattle.base.proofs.Checks.{needs-gives, gives-injective}
@@ -24,12 +24,12 @@ use Rattle.buffer.proofs.Views.{prefix-fits}
 -- t is k bytes where the record is one of the capacity
 module _ (capacity size : ℕ) (t lent : List ℕ) (k n : ℕ) (e : size ≤ capacity → length t ≡ k) where
   pub emit-too-many : capacity < size
-      → (refuses (8 ∷ 0 ∷ capacity ∷ size ∷ []) ≡ count n (emitted capacity size t lent)) × (lent ≡ after lent (emitted capacity size t lent))
+      → (refuses (noArea (8 ∷ 0 ∷ capacity ∷ size ∷ [])) ≡ count n (emitted capacity size t lent)) × (lent ≡ after lent (emitted capacity size t lent))
   unfolding emitted
   emit-too-many h = (simp (lt-leb size capacity h), simp (lt-leb size capacity h))
 
   pub emit-no-room : size ≤ capacity → length lent < k
-      → (refuses (9 ∷ 0 ∷ k ∷ length lent ∷ []) ≡ count n (emitted capacity size t lent)) × (lent ≡ after lent (emitted capacity size t lent))
+      → (refuses (noArea (9 ∷ 0 ∷ k ∷ length lent ∷ [])) ≡ count n (emitted capacity size t lent)) × (lent ≡ after lent (emitted capacity size t lent))
   unfolding emitted
   emit-no-room h r =
       let short : length lent < length t = rw (e h) r in
@@ -92,11 +92,11 @@ same-test false s t p = by (sameBytes s t) refl
     by false e = refl
 
 module _ (capacity : ℕ) (size : ℕ) (s : List ℕ) (other : ℕ) (t : List ℕ) where
-  pub equal-left : capacity < size → refuses (8 ∷ 0 ∷ capacity ∷ size ∷ []) ≡ equal capacity (buffer size s) (buffer other t)
+  pub equal-left : capacity < size → refuses (noArea (8 ∷ 0 ∷ capacity ∷ size ∷ [])) ≡ equal capacity (buffer size s) (buffer other t)
   unfolding equal
   equal-left h = simp (lt-leb size capacity h)
 
-  pub equal-right : size ≤ capacity → capacity < other → refuses (8 ∷ 0 ∷ capacity ∷ other ∷ []) ≡ equal capacity (buffer size s) (buffer other t)
+  pub equal-right : size ≤ capacity → capacity < other → refuses (noArea (8 ∷ 0 ∷ capacity ∷ other ∷ [])) ≡ equal capacity (buffer size s) (buffer other t)
   unfolding equal
   equal-right h k = simp (le-leb size capacity h, lt-leb other capacity k)
 
@@ -118,7 +118,7 @@ module _ (capacity size count : ℕ) where
       (omega arith, omega arith)
 
 module _ (capacity : ℕ) (given : List ℕ) (b : Buffer) where
-  pub extend-refused : {why : List ℕ} → refuses why ≡ grown capacity (b .size) (length given)
+  pub extend-refused : {why : Why} → refuses why ≡ grown capacity (b .size) (length given)
       → (refuses why ≡ done (extended capacity given b)) × (b ≡ after b (extended capacity given b))
   unfolding extended
   extend-refused e = (rw (← e), rw (← e))
@@ -142,7 +142,7 @@ module _ (capacity : ℕ) (given : List ℕ) (b : Buffer) where
       by (gives n) = refl
       by (refuses why) = refl
 
-  pub lent-refused : {why : List ℕ} → refuses why ≡ grown capacity (b .size) (length given) → b .room ≡ roomAfter (b .room) (extended capacity given b)
+  pub lent-refused : {why : Why} → refuses why ≡ grown capacity (b .size) (length given) → b .room ≡ roomAfter (b .room) (extended capacity given b)
   unfolding extended
   lent-refused e = rw (← e)
 
@@ -157,7 +157,7 @@ module _ (capacity : ℕ) (given : List ℕ) (b : Buffer) where
 -- ---- reading
 
 module _ (capacity : ℕ) (s : List ℕ) where
-  pub read-refused : {why : List ℕ} → refuses why ≡ prefix capacity s → refuses why ≡ unmarshalled capacity s
+  pub read-refused : {why : Why} → refuses why ≡ prefix capacity s → refuses why ≡ unmarshalled capacity s
   unfolding unmarshalled
   read-refused e = rw (← e)
 
@@ -177,7 +177,7 @@ module _ (capacity : ℕ) (s : List ℕ) where
       rw (← e, ← q) (p ∙ λ i. t ++ drop (size i) (zeros i))
 
   -- what was read beside its buffer: a new one where it is refused, else that room with the size
-  pub unmarshal-refused : {why : List ℕ} {b : Buffer} → refuses why ≡ prefix capacity s → b ≡ new capacity
+  pub unmarshal-refused : {why : Why} {b : Buffer} → refuses why ≡ prefix capacity s → b ≡ new capacity
       → (refuses why ≡ prefix capacity s) × (b ≡ after (new capacity) (unmarshalled capacity s))
   unmarshal-refused e p = (e, p ∙ ap (after (new capacity)) (read-refused e))
 

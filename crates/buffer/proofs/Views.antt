@@ -9,13 +9,13 @@ use lib.Dec.{eqb, leb}
 use lib.ListN.{length, getD}
 use Rattle.base.specs.Bytes.{number}
 use Rattle.base.specs.Parts.{upTo}
-use Rattle.base.specs.Said.{Said, gives, refuses, done}
+use Rattle.base.specs.Said.{Why, noArea, within, Said, gives, refuses, done}
 use Rattle.base.proofs.Checks.{needs-gives, then-gives, gives-injective, refuses-injective, gives≢refuses}
 use Rattle.base.proofs.Lists.{take-drop-span}
 use Rattle.buffer.specs.View.{sizeOf, readSize, prefix, whole, dataRange, isEmpty}
 
 module _ (s : List ℕ) where
-  pub size-short : length s < 2 → refuses (1 ∷ 0 ∷ 2 ∷ length s ∷ []) ≡ readSize s
+  pub size-short : length s < 2 → refuses (noArea (1 ∷ 0 ∷ 2 ∷ length s ∷ [])) ≡ readSize s
   unfolding readSize
   size-short h = simp (lt-leb 2 (length s) h)
 
@@ -30,7 +30,7 @@ module _ (s : List ℕ) where
   unfolding readSize
   sized e = leb-true 2 (length s) (needs-gives (leb 2 (length s)) _ _ (sym e) .0)
 
-  pub range-refused : {why : List ℕ} → refuses why ≡ readSize s → refuses why ≡ dataRange s
+  pub range-refused : {why : Why} → refuses why ≡ readSize s → refuses why ≡ dataRange s
   unfolding dataRange
   range-refused e = rw (← e)
 
@@ -38,7 +38,7 @@ module _ (s : List ℕ) where
   unfolding dataRange
   range-read e = rw (← e)
 
-  pub empty-refused : {why : List ℕ} → refuses why ≡ readSize s → refuses why ≡ isEmpty s
+  pub empty-refused : {why : Why} → refuses why ≡ readSize s → refuses why ≡ isEmpty s
   unfolding isEmpty
   empty-refused e = rw (← e)
 
@@ -47,16 +47,16 @@ module _ (s : List ℕ) where
   empty-read e = rw (← e)
 
 module _ (capacity : ℕ) (s : List ℕ) where
-  pub prefix-refused : {why : List ℕ} → refuses why ≡ readSize s → refuses why ≡ prefix capacity s
+  pub prefix-refused : {why : Why} → refuses why ≡ readSize s → refuses why ≡ prefix capacity s
   unfolding prefix
   prefix-refused e = rw (← e)
 
   module _ (n : ℕ) (e : gives n ≡ readSize s) where
-    pub too-many : capacity < n → refuses (8 ∷ 0 ∷ capacity ∷ n ∷ []) ≡ prefix capacity s
+    pub too-many : capacity < n → refuses (noArea (8 ∷ 0 ∷ capacity ∷ n ∷ [])) ≡ prefix capacity s
     unfolding prefix
     too-many h = rw (← e) (simp (lt-leb n capacity h))
 
-    pub too-short : n ≤ capacity → length s - 2 < n → refuses (1 ∷ 2 ∷ n ∷ (length s - 2) ∷ []) ≡ prefix capacity s
+    pub too-short : n ≤ capacity → length s - 2 < n → refuses (noArea (1 ∷ 2 ∷ n ∷ (length s - 2) ∷ [])) ≡ prefix capacity s
     unfolding prefix
     too-short h k = rw (← e) (simp (le-leb n capacity h, lt-leb n (length s - 2) k))
 
@@ -86,12 +86,12 @@ module _ (capacity : ℕ) (s : List ℕ) where
       let two = needs-gives (leb 2 (length s)) _ _ (size .1) in
       sym (gives-injective (there .1)) ∙ ap (λ (m : ℕ). 2 + m) (sym (gives-injective (two .1)))
 
-  pub whole-refused : {why : List ℕ} → refuses why ≡ prefix capacity s → refuses why ≡ whole capacity s
+  pub whole-refused : {why : Why} → refuses why ≡ prefix capacity s → refuses why ≡ whole capacity s
   unfolding whole
   whole-refused e = rw (← e)
 
   module _ (n : ℕ) (e : gives n ≡ prefix capacity s) where
-    pub trailing : n < length s → refuses (2 ∷ n ∷ (length s - n) ∷ []) ≡ whole capacity s
+    pub trailing : n < length s → refuses (noArea (2 ∷ n ∷ (length s - n) ∷ [])) ≡ whole capacity s
     unfolding whole
     trailing h = rw (← e) (simp (lt-leb (length s) n h))
 
@@ -117,9 +117,9 @@ module _ (capacity : ℕ) (s : List ℕ) where
       by (gives n) q e = ap (λ (m : ℕ). upTo (gives m)) (sym (whole-fits (sym q)))
       by (refuses why) q e = absurd (gives≢refuses e)
 
-  pub no-range : {why : List ℕ} → refuses why ≡ done (whole capacity s) → refuses why ≡ upTo (whole capacity s)
+  pub no-range : {why : Why} → refuses why ≡ done (whole capacity s) → refuses why ≡ upTo (whole capacity s)
   no-range e = by (whole capacity s) e
     where
-      by : {why : List ℕ} (w : Said ℕ) → refuses why ≡ done w → refuses why ≡ upTo w
+      by : {why : Why} (w : Said ℕ) → refuses why ≡ done w → refuses why ≡ upTo w
       by (gives n) e = absurd (gives≢refuses (sym e))
       by (refuses why) e = ap refuses (refuses-injective e)

@@ -5,7 +5,7 @@ use mathlib.Core.Bool.{Bool, true, false, _&&_}
 use mathlib.Core.List.{List, [], _∷_, _++_}
 use lib.Dec.{eqb, leb}
 use lib.ListN.{length, take, drop, replicate}
-use Rattle.base.specs.Said.{Said, gives, after, needs, then}
+use Rattle.base.specs.Said.{noArea, Said, gives, after, needs, then}
 use Rattle.base.specs.Tpm2b.{tpm2b}
 use Rattle.buffer.specs.View.{prefix}
 
@@ -26,13 +26,13 @@ new capacity = record { size = 0; room = replicate capacity 0 }
 
 -- every call first judges the record
 abbrev pub judged : {A : Type 0} → ℕ → ℕ → Said A → Said A
-judged capacity size rest = needs (leb size capacity) (8 ∷ 0 ∷ capacity ∷ size ∷ []) rest
+judged capacity size rest = needs (leb size capacity) (noArea (8 ∷ 0 ∷ capacity ∷ size ∷ [])) rest
 
 -- the size after so many bytes more
 unfoldable pub grown : ℕ → ℕ → ℕ → Said ℕ
 grown capacity size count =
     judged capacity size
-    (needs (leb count (capacity - size)) (9 ∷ size ∷ count ∷ (capacity - size) ∷ [])
+    (needs (leb count (capacity - size)) (noArea (9 ∷ size ∷ count ∷ (capacity - size) ∷ []))
     (gives (size + count)))
 
 -- the buffer with the bytes given behind those held; what stands behind them stays
@@ -61,7 +61,7 @@ over t lent = t ++ drop (length t) lent
 unfoldable pub emitted : ℕ → ℕ → List ℕ → List ℕ → Said (List ℕ)
 emitted capacity size t lent =
     judged capacity size
-    (needs (leb (length t) (length lent)) (9 ∷ 0 ∷ length t ∷ length lent ∷ [])
+    (needs (leb (length t) (length lent)) (noArea (9 ∷ 0 ∷ length t ∷ length lent ∷ []))
     (gives (over t lent)))
 
 abbrev pub copied : ℕ → Buffer → List ℕ → Said (List ℕ)

@@ -9,13 +9,15 @@ ghost use Rattle.buffer.specs.Fixed.{buffer, copied, count, equal, exten
 ghost use Rattle.buffer.specs.View.{prefix};
 use base::answer::Count;
 use base::answer::Flag;
+use base::error::Area;
 use base::error::TpmError;
 use base::field::write_bytes;
 
 fn too_many(capacity: usize, size: usize) -> TpmError
-    ensures { λ r. ⌜ r ≡ TpmError.TooManyBytes 0 capacity size ⌝ }
+    ensures { λ r. ⌜ r ≡ TpmError.TooManyBytes Area.None 0 capacity size ⌝ }
 {
     TpmError::TooManyBytes {
+        area: Area::None,
         offset: 0,
         limit: capacity,
         actual: size,
@@ -23,9 +25,10 @@ fn too_many(capacity: usize, size: usize) -> TpmError
 }
 
 fn no_room(needed: usize, available: usize) -> TpmError
-    ensures { λ r. ⌜ r ≡ TpmError.BufferOverflow 0 needed available ⌝ }
+    ensures { λ r. ⌜ r ≡ TpmError.BufferOverflow Area.None 0 needed available ⌝ }
 {
     TpmError::BufferOverflow {
+        area: Area::None,
         offset: 0,
         needed,
         available,
@@ -41,6 +44,7 @@ pub(crate) fn grow(capacity: usize, size: usize, count: usize) -> Count
     }
     if capacity - size < count {
         return Count::Refused(TpmError::BufferOverflow {
+            area: Area::None,
             offset: size,
             needed: count,
             available: capacity - size,

@@ -11,6 +11,7 @@ use base::answer::Count;
 use base::answer::Flag;
 use base::answer::Outcome;
 use base::answer::Range;
+use base::error::Area;
 use base::error::TpmError;
 use base::field::be16;
 use base::part::behind;
@@ -23,6 +24,7 @@ pub fn size(s: &[u8]) -> Count
 {
     if s.len() < 2 {
         return Count::Refused(TpmError::UnexpectedEnd {
+            area: Area::None,
             offset: 0,
             needed: 2,
             available: s.len(),
@@ -41,6 +43,7 @@ pub fn validate_prefix(capacity: usize, s: &[u8]) -> Count
     };
     if capacity < size {
         return Count::Refused(TpmError::TooManyBytes {
+            area: Area::None,
             offset: 0,
             limit: capacity,
             actual: size,
@@ -48,6 +51,7 @@ pub fn validate_prefix(capacity: usize, s: &[u8]) -> Count
     }
     if s.len() - 2 < size {
         return Count::Refused(TpmError::UnexpectedEnd {
+            area: Area::None,
             offset: 2,
             needed: size,
             available: s.len() - 2,
@@ -66,6 +70,7 @@ pub fn validate(capacity: usize, s: &[u8]) -> Outcome
         Count::Is(n) => {
             if n < s.len() {
                 Outcome::Refused(TpmError::TrailingData {
+                    area: Area::None,
                     offset: n,
                     actual: s.len() - n,
                 })

@@ -3,12 +3,12 @@
 use mathlib.Core.Path.{_≡_, refl, sym, _∙_, ap, subst}
 use mathlib.Core.List.{List, [], _∷_}
 use Prim.Native.Nat.{ℕ, _-_}
-use Rattle.base.specs.Said.{Said, gives, refuses, done, after}
+use Rattle.base.specs.Said.{Why, numberOf, Said, gives, refuses, done, after}
 use Rattle.buffer.specs.Fixed.{Buffer, new, roomAfter, unmarshalled}
 use Rattle.buffer.specs.View.{prefix}
 use Rattle.buffer.proofs.Rooms.{read-done, read-refused}
 use Rattle.capi.specs.Buffer.{laid, sizeAlone, sizeAndWire}
-use Rattle.capi.specs.Out.{Reports, first, answerOver, refusalOver}
+use Rattle.capi.specs.Out.{Reports, answerOver, refusalOver}
 use Rattle.capi.proofs.Reported.{answered, refused}
 
 laid-said : (b : Buffer) (said : Said Buffer) → laid (done said) (after b said) ≡ said
@@ -31,7 +31,7 @@ module _ (rest : List ℕ) where
 
 -- what is reported of a TPM2B at the start of s, and what the lent room is later
 module _ (capacity : ℕ) (s old rest : List ℕ) where
-  pub unread : (why : List ℕ) (r : ℕ) (later : List ℕ) → refuses why ≡ prefix capacity s → (r ≡ first why) × (later ≡ refusalOver why old)
+  pub unread : (why : Why) (r : ℕ) (later : List ℕ) → refuses why ≡ prefix capacity s → (r ≡ numberOf why) × (later ≡ refusalOver why old)
       → Reports sizeAndWire (prefix capacity s) old later r × (rest ≡ roomAfter rest (unmarshalled capacity s))
   unread why r later e p = (refused sizeAndWire (prefix capacity s) old why r later e p, ap (roomAfter rest) (read-refused capacity s e))
 

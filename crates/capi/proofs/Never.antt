@@ -12,7 +12,7 @@ use denote.Triple.Clauses.{Lasts, atExit}
 use lib.Dec.{eqb}
 use Rattle.base.specs.Parts.{upTo}
 use Rattle.base.specs.Said.{Said, gives, refuses, Never}
-use Rattle.base.proofs.Never.{by-gives, by-refuses, by-cond, by-done, by-then, by-step, not-by, never-read, never-written}
+use Rattle.base.proofs.Only.{by-gives, by-refuses, by-cond, by-done, by-then, by-step, not-by, never-read, never-written}
 use Rattle.buffer.proofs.Never as buffer
 use Rattle.frame.specs.Answer.{whole, commandByValue, responseByValue}
 use Rattle.frame.specs.Command.{Division}
@@ -21,7 +21,7 @@ use Rattle.frame.proofs.Never as frame
 use Rattle.keeper.proofs.Never as keeper
 use Rattle.rc.proofs.Never.{never-code}
 use Rattle.table.specs.Dispatch.{dispatch}
-use Rattle.table.proofs.Never.{never-row}
+use Rattle.table.proofs.Only.{never-row}
 use Rattle.capi.specs.Code.{kindNumbered}
 use Rattle.capi.specs.Out.{returned, Reports}
 use Rattle.capi.specs.Rules.{rulesNumbered, under}
@@ -157,8 +157,7 @@ NotSeven n ps r number Post =
 
 not-returned : {A : Type 0} (said : Said A) → Never 7 said → returned said ≡ 7 → ⊥
 not-returned (gives a) p e = omega arith
-not-returned (refuses []) p e = omega arith
-not-returned (refuses (n ∷ fields)) p e = not-by p refl e
+not-returned (refuses why) p e = not-by p refl e
 
 not-seven : {A : Type 0} {of : A → List ℕ} {said : Said A} {old later : List ℕ} {r : ℕ} → Never 7 said → Reports of said old later r → r ≡ 7 → ⊥
 not-seven p told e = not-returned _ p (sym (told .status) ∙ e)
@@ -333,7 +332,7 @@ skein-command-cc : NotSeven 2 skein-command-cc-kinds.ps skein-command-cc-kinds.r
 skein-command-cc κs a x v met = not-seven (by-rules (a .0) (λ book. frame.never-cc book (now (a .1 .0)))) met
 
 skein-command-set-cc : NotSeven 2 skein-command-set-cc-kinds.ps skein-command-set-cc-kinds.r (λ κs x. x) skein-command-set-cc-reads.Post
-skein-command-set-cc κs a x v met = not-seven (by-rules (a .0) (λ book. by-done (frame.never-set-cc book (a .1 .0) (now (a .1 .1 .0))))) (met .0)
+skein-command-set-cc κs a x v met = not-seven (by-rules (a .0) (λ book. by-done (frame.never-set-cc book (now (a .1 .1 .0)) (a .1 .0)))) (met .0)
 
 skein-command-parts : NotSeven 2 skein-command-parts-kinds.ps skein-command-parts-kinds.r (λ κs x. x .refusal) skein-command-parts-reads.Post
 skein-command-parts κs a x v met = not-seven (by-rules (a .0) (λ book. by-command (now (a .1 .0)) (frame.never-command book (now (a .1 .0))))) (met .0)
@@ -354,7 +353,7 @@ skein-response-validate : NotSeven 2 skein-response-validate-kinds.ps skein-resp
 skein-response-validate κs a x v met = not-seven (by-rules (a .0) (λ book. by-done (frame.never-response book (now (a .1 .1 .0)) (a .1 .0)))) met
 
 skein-response-set-rc : NotSeven 2 skein-response-set-rc-kinds.ps skein-response-set-rc-kinds.r (λ κs x. x) skein-response-set-rc-reads.Post
-skein-response-set-rc κs a x v met = not-seven (by-rules (a .0) (λ book. by-done (frame.never-set-rc book (a .1 .0) (now (a .1 .1 .0))))) (met .0)
+skein-response-set-rc κs a x v met = not-seven (by-rules (a .0) (λ book. by-done (frame.never-set-rc book (now (a .1 .1 .0)) (a .1 .0)))) (met .0)
 
 skein-response-parts : NotSeven 2 skein-response-parts-kinds.ps skein-response-parts-kinds.r (λ κs x. x .refusal) skein-response-parts-reads.Post
 skein-response-parts κs a x v met = not-seven (by-rules (a .0) (λ book. by-response (now (a .1 .1 .0)) (frame.never-response book (now (a .1 .1 .0)) (a .1 .0)))) (met .0)

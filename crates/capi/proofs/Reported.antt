@@ -3,8 +3,12 @@
 use mathlib.Core.Path.{_≡_, _∙_, ap, subst}
 use mathlib.Core.List.{List}
 use Prim.Native.Nat.{ℕ}
-use Rattle.base.specs.Said.{Said, gives, refuses}
-use Rattle.capi.specs.Out.{first, returned, answerOver, refusalOver, reportedOver, Reports}
+use native.Mathlib.Omega.{arith}
+use lib.ListN.{length, getD}
+use lib.Seq.{sets, length-sets, getD-set-same}
+use Rattle.base.specs.Error.{areaNumber}
+use Rattle.base.specs.Said.{Why, numberOf, Said, gives, refuses}
+use Rattle.capi.specs.Out.{fields, returned, answerOver, refusalOver, reportedOver, Reports}
 
 module _ {A : Type 0} (of : A → List ℕ) (said : Said A) (old : List ℕ) where
   pub answered : (a : A) → gives a ≡ said → Reports of said old (answerOver (of a) old) 0
@@ -16,9 +20,16 @@ module _ {A : Type 0} (of : A → List ℕ) (said : Said A) (old : List ℕ) whe
       let told = answered a e in
       record { status = p .0 ∙ told .status; array = p .1 ∙ told .array }
 
-  pub refused : (why : List ℕ) (r : ℕ) (later : List ℕ) → refuses why ≡ said → (r ≡ first why) × (later ≡ refusalOver why old) → Reports of said old later r
+  pub refused : (why : Why) (r : ℕ) (later : List ℕ) → refuses why ≡ said → (r ≡ numberOf why) × (later ≡ refusalOver why old) → Reports of said old later r
   refused why r later e p = record { status = p .0 ∙ ap returned e; array = p .1 ∙ ap (λ (t : Said A). reportedOver of t old) e }
 
 -- what was reported of an answer is reported of what the answer says
 pub as-said : {A : Type 0} {of : A → List ℕ} {x y : Said A} {old later : List ℕ} {r : ℕ} → x ≡ y → Reports of x old later r → Reports of y old later r
 as-said {of = of} {old = old} {later = later} {r = r} e p = subst (λ (t : Said _). Reports of t old later r) e p
+
+-- whatever is refused, its area stands at place 7 (document 02, W2)
+pub area-told : {A : Type 0} {of : A → List ℕ} {said : Said A} {old later : List ℕ} {r : ℕ} {why : Why} → Reports of said old later r → said ≡ refuses why
+    → length old ≡ 8 → getD later 7 0 ≡ areaNumber (why .area)
+area-told {A} {of} {said} {old} {later} {r} {why} told is eight =
+    ap (λ (l : List ℕ). getD l 7 0) (told .array ∙ ap (λ (t : Said A). reportedOver of t old) is)
+    ∙ getD-set-same (sets old 4 (fields why)) 7 (areaNumber (why .area)) 0 (rw length-sets (omega arith))

@@ -3,13 +3,13 @@
 use mathlib.Core.Path.{_≡_, _∙_}
 use mathlib.Core.List.{List}
 use Prim.Native.Nat.{ℕ}
-use Rattle.base.specs.Said.{Said, gives, refuses, then}
+use Rattle.base.specs.Said.{Why, numberOf, Said, gives, refuses, then}
 use Rattle.base.proofs.Checks.{goes-on, stops}
-use Rattle.capi.specs.Out.{first, refusalOver, Reports}
+use Rattle.capi.specs.Out.{refusalOver, Reports}
 use Rattle.capi.proofs.Reported.{as-said, refused}
 
 module _ {A B : Type 0} (of : A → List ℕ) (named : Said B) (say : B → Said A) where
-  pub not-named : {why old later : List ℕ} {r : ℕ} → refuses why ≡ named → (r ≡ first why) × (later ≡ refusalOver why old)
+  pub not-named : {why : Why} {old later : List ℕ} {r : ℕ} → refuses why ≡ named → (r ≡ numberOf why) × (later ≡ refusalOver why old)
       → Reports of (then named say) old later r
   not-named {why} {old} {later} {r} e p = refused of (then named say) old why r later (stops named say e) p
 

@@ -4,7 +4,7 @@ use Prim.Native.Nat.{ℕ}
 use mathlib.Core.Bool.{cond}
 use mathlib.Core.List.{List, [], _∷_}
 use lib.Dec.{eqb}
-use Rattle.base.specs.Said.{Said, gives, refuses, then}
+use Rattle.base.specs.Said.{noArea, Said, gives, refuses, then}
 use Rattle.rc.specs.declared.code.Code.{Code}
 use Rattle.rc.specs.declared.code.Kind.{Kind}
 use Rattle.rc.specs.declared.code.Kind.the-variants.{Fmt0, Warn, Fmt1, Parameter, Handle, Session}
@@ -25,7 +25,7 @@ kindNumbered n =
     (cond (eqb n 3) (gives Parameter)
     (cond (eqb n 4) (gives Handle)
     (cond (eqb n 5) (gives Session)
-    (refuses (100 ∷ 0 ∷ n ∷ [])))))))
+    (refuses (noArea (100 ∷ 0 ∷ n ∷ []))))))))
 
 abbrev pub codeOf : ℕ → ℕ → ℕ → Said Code
 codeOf kind b n = then (kindNumbered kind) λ k. gives (ofParts k b n)

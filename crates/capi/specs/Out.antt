@@ -1,26 +1,23 @@
 -- What C is given of an answer: a number, 0 for an answer and else the refusal's, and the numbers that go into the lent array,
--- each at a place of its own: an answer's four places are never a refusal's.
+-- each at a place of its own: an answer's four places are never a refusal's, and a refusal's area has the last (document 02, W2).
 -- Assumes nothing: these are definitions.
 use Prim.Native.Nat.{ℕ}
 use mathlib.Core.Path.{_≡_}
 use mathlib.Core.Bool.{Bool, cond}
 use mathlib.Core.List.{List, [], _∷_}
+use lib.ListN.{drop}
 use lib.Seq.{sets}
 use Rattle.base.specs.Answer.{Part}
-use Rattle.base.specs.Said.{Said, gives, refuses}
+use Rattle.base.specs.Error.{areaNumber}
+use Rattle.base.specs.Said.{Why, numberOf, Said, gives, refuses}
 
--- a refusal is its number, then its fields
-abbrev pub first : List ℕ → ℕ
-first [] = 0
-first (number ∷ rest) = number
-
-abbrev pub fields : List ℕ → List ℕ
-fields [] = []
-fields (number ∷ rest) = rest
+-- the fields of a refusal stand behind its number
+abbrev pub fields : Why → List ℕ
+fields why = drop 1 (why .numbers)
 
 abbrev pub returned : {A : Type 0} → Said A → ℕ
 returned (gives a) = 0
-returned (refuses why) = first why
+returned (refuses why) = numberOf why
 
 abbrev pub one : ℕ → List ℕ
 one n = n ∷ []
@@ -35,12 +32,12 @@ ends p = p .from ∷ p .to ∷ []
 abbrev pub none : {A : Type 0} → A → List ℕ
 none a = []
 
--- an answer's numbers stand from the first place on, over what was there; a refusal's fields from the place of the offset on
+-- an answer's numbers stand from the first place on, over what was there; a refusal's fields from the place of the offset on, and its area at the last
 abbrev pub answerOver : List ℕ → List ℕ → List ℕ
 answerOver numbers old = sets old 0 numbers
 
-abbrev pub refusalOver : List ℕ → List ℕ → List ℕ
-refusalOver why old = sets old 4 (fields why)
+abbrev pub refusalOver : Why → List ℕ → List ℕ
+refusalOver why old = sets (sets old 4 (fields why)) 7 (areaNumber (why .area) ∷ [])
 
 -- the array later, where an answer's own numbers are told by `of`
 abbrev pub reportedOver : {A : Type 0} → (A → List ℕ) → Said A → List ℕ → List ℕ

@@ -4,7 +4,7 @@ use Prim.Native.Nat.{ℕ}
 use mathlib.Core.Bool.{Bool, cond}
 use mathlib.Core.List.{List, [], _∷_}
 use lib.Dec.{eqb}
-use Rattle.base.specs.Said.{Said, gives, refuses, then}
+use Rattle.base.specs.Said.{noArea, Said, gives, refuses, then}
 use Rattle.frame.specs.declared.rules.Reading.the-variants as reading
 use Rattle.frame.specs.declared.rules.Rules.{Rules}
 use Rattle.frame.specs.Rules.{Rulebook, bookOf}
@@ -17,7 +17,7 @@ use Rattle.capi.specs.declared.rules.NamedMode.{NamedMode}
 use Rattle.capi.specs.declared.rules.NamedMode.the-variants as named-mode
 
 abbrev pub unnamed : {A : Type 0} → ℕ → Said A
-unnamed n = refuses (101 ∷ 0 ∷ n ∷ [])
+unnamed n = refuses (noArea (101 ∷ 0 ∷ n ∷ []))
 
 -- the Rust reading is 0, the standard one 1
 unfoldable pub rulesNumbered : ℕ → Said Rules

@@ -47,6 +47,6 @@ pub extern "C" fn skein_rc_value(kind: u32, base: u32, index: u8, out: &mut Numb
         3 => value_of(Kind::Parameter, base, index, out),
         4 => value_of(Kind::Handle, base, index, out),
         5 => value_of(Kind::Session, base, index, out),
-        _ => out::two(100, 0, kind as u64, out),
+        _ => out::unnamed(100, kind, out),
     }
 }

@@ -28,7 +28,7 @@ pub extern "C" fn skein_command_cast(rules: u32, s: &[u8], out: &mut Numbers) ->
     ensures { λ r. ⌜ Reports ends (under rules λ book. whole (now (s .entry)) (castCommand book (now (s .entry)))) (now (out .entry)) (now (out .exit)) r ⌝ }
 {
     match rules_named(rules) {
-        Named::Unknown(n) => out::two(UNKNOWN, 0, n as u64, out),
+        Named::Unknown(n) => out::unnamed(UNKNOWN, n, out),
         Named::Is(by) => out::range(frame::command::cast_range(by, s), out),
     }
 }
@@ -38,7 +38,7 @@ pub extern "C" fn skein_command_handles(rules: u32, s: &[u8], out: &mut Numbers)
     ensures { λ r. ⌜ Reports ends (under rules λ book. handlesRange book (now (s .entry))) (now (out .entry)) (now (out .exit)) r ⌝ }
 {
     match rules_named(rules) {
-        Named::Unknown(n) => out::two(UNKNOWN, 0, n as u64, out),
+        Named::Unknown(n) => out::unnamed(UNKNOWN, n, out),
         Named::Is(by) => out::range(frame::command::handles_range(by, s), out),
     }
 }
@@ -48,7 +48,7 @@ pub extern "C" fn skein_command_auth_area(rules: u32, s: &[u8], out: &mut Number
     ensures { λ r. ⌜ Reports ends (under rules λ book. authRange book (now (s .entry))) (now (out .entry)) (now (out .exit)) r ⌝ }
 {
     match rules_named(rules) {
-        Named::Unknown(n) => out::two(UNKNOWN, 0, n as u64, out),
+        Named::Unknown(n) => out::unnamed(UNKNOWN, n, out),
         Named::Is(by) => out::range(frame::command::auth_area_range(by, s), out),
     }
 }
@@ -58,7 +58,7 @@ pub extern "C" fn skein_command_parameters(rules: u32, s: &[u8], out: &mut Numbe
     ensures { λ r. ⌜ Reports ends (under rules λ book. parametersRange book (now (s .entry))) (now (out .entry)) (now (out .exit)) r ⌝ }
 {
     match rules_named(rules) {
-        Named::Unknown(n) => out::two(UNKNOWN, 0, n as u64, out),
+        Named::Unknown(n) => out::unnamed(UNKNOWN, n, out),
         Named::Is(by) => out::range(frame::command::parameters_range(by, s), out),
     }
 }
@@ -69,7 +69,7 @@ pub extern "C" fn skein_command_cast_prefix(rules: u32, s: &[u8], out: &mut Numb
     ensures { λ r. ⌜ Reports (partAndTail (length (now (s .entry)))) (under rules λ book. upTo (castCommandPrefix book (now (s .entry)))) (now (out .entry)) (now (out .exit)) r ⌝ }
 {
     match rules_named(rules) {
-        Named::Unknown(n) => out::two(UNKNOWN, 0, n as u64, out),
+        Named::Unknown(n) => out::unnamed(UNKNOWN, n, out),
         Named::Is(by) => out::with_tail(frame::command::cast_prefix_range(by, s), s.len(), out),
     }
 }
@@ -79,7 +79,7 @@ pub extern "C" fn skein_command_validate(rules: u32, s: &[u8], out: &mut Numbers
     ensures { λ r. ⌜ Reports none (under rules λ book. done (readCommand book (now (s .entry)))) (now (out .entry)) (now (out .exit)) r ⌝ }
 {
     match rules_named(rules) {
-        Named::Unknown(n) => out::two(UNKNOWN, 0, n as u64, out),
+        Named::Unknown(n) => out::unnamed(UNKNOWN, n, out),
         Named::Is(by) => out::outcome(frame::command::validate(by, s), out),
     }
 }
@@ -89,7 +89,7 @@ pub extern "C" fn skein_command_cc(rules: u32, s: &[u8], out: &mut Numbers) -> u
     ensures { λ r. ⌜ Reports one (under rules λ book. readCc book (now (s .entry))) (now (out .entry)) (now (out .exit)) r ⌝ }
 {
     match rules_named(rules) {
-        Named::Unknown(n) => out::two(UNKNOWN, 0, n as u64, out),
+        Named::Unknown(n) => out::unnamed(UNKNOWN, n, out),
         Named::Is(by) => out::command_code(frame::command::cc(by, s), out),
     }
 }
@@ -100,7 +100,7 @@ pub extern "C" fn skein_command_set_cc(rules: u32, cc: u32, s: &mut [u8], out: &
     ensures { λ r. ⌜ now (s .exit) ≡ after (now (s .entry)) (under rules λ book. setCc book cc (now (s .entry))) ⌝ }
 {
     match rules_named(rules) {
-        Named::Unknown(n) => out::two(UNKNOWN, 0, n as u64, out),
+        Named::Unknown(n) => out::unnamed(UNKNOWN, n, out),
         Named::Is(by) => out::outcome(frame::command::set_cc(by, s, TpmCc(cc)), out),
     }
 }
@@ -133,7 +133,7 @@ pub extern "C" fn skein_command_parts(rules: u32, s: &[u8], out: &mut Numbers) -
 {
     match rules_named(rules) {
         Named::Unknown(n) => CommandParts {
-            refusal: out::two(UNKNOWN, 0, n as u64, out),
+            refusal: out::unnamed(UNKNOWN, n, out),
             command: no_command(),
         },
         Named::Is(by) => match frame::command::parts(by, s) {
@@ -166,7 +166,7 @@ pub extern "C" fn skein_command_write(
     ensures { λ r. ⌜ now (room .exit) ≡ roomAfter (now (room .entry)) (under rules λ book. writeCommand book tag cc (handed (now (handles .entry)) sessions (now (lent .entry)) (now (parameters .entry))) (length (now (room .entry)))) ⌝ }
 {
     match rules_named(rules) {
-        Named::Unknown(n) => out::two(UNKNOWN, 0, n as u64, out),
+        Named::Unknown(n) => out::unnamed(UNKNOWN, n, out),
         Named::Is(by) => {
             let written = marshal::command::write(
                 by,

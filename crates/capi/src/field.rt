@@ -5,19 +5,20 @@ ghost use Rattle.base.specs.Said.{after, done};
 ghost use Rattle.capi.specs.Out.{Reports, one, none};
 use crate::out;
 use crate::out::Numbers;
+use base::error::Area;
 
 #[no_mangle]
 pub extern "C" fn skein_read_u16(place: usize, s: &[u8], out: &mut Numbers) -> u32
     ensures { λ r. ⌜ Reports one (readField 2 place (now (s .entry))) (now (out .entry)) (now (out .exit)) r ⌝ }
 {
-    out::number16(base::field::read_u16(s, place), out)
+    out::number16(base::field::read_u16(Area::None, s, place), out)
 }
 
 #[no_mangle]
 pub extern "C" fn skein_read_u32(place: usize, s: &[u8], out: &mut Numbers) -> u32
     ensures { λ r. ⌜ Reports one (readField 4 place (now (s .entry))) (now (out .entry)) (now (out .exit)) r ⌝ }
 {
-    out::number32(base::field::read_u32(s, place), out)
+    out::number32(base::field::read_u32(Area::None, s, place), out)
 }
 
 #[no_mangle]

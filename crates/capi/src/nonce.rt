@@ -1,11 +1,11 @@
 // The nonce keeper, of crate keeper. Its state is one lent array, which to C is one opaque struct.
 ghost use mathlib.Core.Path.{_≡_};
 ghost use lib.ListN.{length, replicate};
-ghost use Rattle.base.specs.Said.{after, done, gives};
+ghost use Rattle.base.specs.Said.{after, done, gives, numberOf};
 ghost use Rattle.keeper.specs.Keeper.{answered, closed, opened};
 ghost use Rattle.keeper.specs.Refusal.{numbered, saidAsked, saidOutcome};
 ghost use Rattle.keeper.specs.State.{answeredIn, askedIn, closedIn, held, openedIn};
-ghost use Rattle.capi.specs.Out.{Reports, ends, first, none, one, refusalOver};
+ghost use Rattle.capi.specs.Out.{Reports, ends, none, one, refusalOver};
 use crate::out;
 use crate::out::Numbers;
 use base::answer::Count;
@@ -16,16 +16,16 @@ use keeper::state::State;
 
 // A refusal of the keeper: a frame's own, or a number without fields.
 fn refuse(e: Refusal, out: &mut Numbers) -> u32
-    ensures { λ r. ⌜ r ≡ first (numbered e) ⌝ }
+    ensures { λ r. ⌜ r ≡ numberOf (numbered e) ⌝ }
     ensures { λ r. ⌜ now (out .exit) ≡ refusalOver (numbered e) (now (out .entry)) ⌝ }
 {
     match e {
         Refusal::Frame(e) => out::refuse(e, out),
-        Refusal::HandleRepeated => 13,
-        Refusal::CountsDiffer => 14,
-        Refusal::AlreadyOpen => 15,
-        Refusal::AllOpen => 16,
-        Refusal::NotOpen => 17,
+        Refusal::HandleRepeated => out::bare(13, out),
+        Refusal::CountsDiffer => out::bare(14, out),
+        Refusal::AlreadyOpen => out::bare(15, out),
+        Refusal::AllOpen => out::bare(16, out),
+        Refusal::NotOpen => out::bare(17, out),
     }
 }
 

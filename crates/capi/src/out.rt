@@ -3,8 +3,9 @@ ghost use mathlib.Core.Path.{_≡_};
 ghost use mathlib.Core.List.{[], _∷_};
 ghost use Rattle.base.specs.Error.{numbered, writerNumbered};
 ghost use Rattle.base.specs.Answer.{saidCommandCode, saidCount, saidFlag, saidNumber16, saidNumber32, saidOutcome, saidRange, saidResponseCode, saidTag, saidTotal};
+ghost use Rattle.base.specs.Said.{inArea, noArea, numberOf};
 ghost use Rattle.capi.specs.Frame.{partAndTail};
-ghost use Rattle.capi.specs.Out.{Reports, answerOver, ends, first, none, one, refusalOver, truth};
+ghost use Rattle.capi.specs.Out.{Reports, answerOver, ends, none, one, refusalOver, truth};
 use base::answer::CommandCode;
 use base::answer::Count;
 use base::answer::Flag;
@@ -15,72 +16,112 @@ use base::answer::Range;
 use base::answer::ResponseCode;
 use base::answer::Tag;
 use base::answer::Total;
+use base::error::Area;
 use base::error::TpmError;
 use base::error::WriteError;
 
-// The lent array: an answer's numbers from place 0 on, at most four; a refusal's fields from place 4 on.
+// The lent array: an answer's numbers from place 0 on, at most four; a refusal's fields from place 4 on, and its area at place 7.
 pub type Numbers = [u64; 8];
 
-fn three(number: u32, offset: usize, b: usize, c: usize, out: &mut Numbers) -> u32
+// Refusals of no field, of two and of three.
+pub(crate) fn bare(number: u32, out: &mut Numbers) -> u32
     ensures { λ r. ⌜ r ≡ number ⌝ }
-    ensures { λ r. ⌜ now (out .exit) ≡ refusalOver (number ∷ offset ∷ b ∷ c ∷ []) (now (out .entry)) ⌝ }
+    ensures { λ r. ⌜ now (out .exit) ≡ refusalOver (noArea (number ∷ [])) (now (out .entry)) ⌝ }
+{
+    out[7] = Area::None.number() as u64;
+    number
+}
+
+fn two(number: u32, area: Area, offset: usize, b: u64, out: &mut Numbers) -> u32
+    ensures { λ r. ⌜ r ≡ number ⌝ }
+    ensures { λ r. ⌜ now (out .exit) ≡ refusalOver (inArea area (number ∷ offset ∷ b ∷ [])) (now (out .entry)) ⌝ }
+{
+    out[4] = offset as u64;
+    out[5] = b;
+    out[7] = area.number() as u64;
+    number
+}
+
+fn three(number: u32, area: Area, offset: usize, b: usize, c: usize, out: &mut Numbers) -> u32
+    ensures { λ r. ⌜ r ≡ number ⌝ }
+    ensures { λ r. ⌜ now (out .exit) ≡ refusalOver (inArea area (number ∷ offset ∷ b ∷ c ∷ [])) (now (out .entry)) ⌝ }
 {
     out[4] = offset as u64;
     out[5] = b as u64;
     out[6] = c as u64;
+    out[7] = area.number() as u64;
     number
 }
 
-pub(crate) fn two(number: u32, offset: usize, b: u64, out: &mut Numbers) -> u32
+// A number in the call that names nothing.
+pub(crate) fn unnamed(number: u32, n: u32, out: &mut Numbers) -> u32
     ensures { λ r. ⌜ r ≡ number ⌝ }
-    ensures { λ r. ⌜ now (out .exit) ≡ refusalOver (number ∷ offset ∷ b ∷ []) (now (out .entry)) ⌝ }
+    ensures { λ r. ⌜ now (out .exit) ≡ refusalOver (noArea (number ∷ 0 ∷ n ∷ [])) (now (out .entry)) ⌝ }
 {
-    out[4] = offset as u64;
-    out[5] = b;
-    number
+    two(number, Area::None, 0, n as u64, out)
 }
 
-// A refusal: its number, and its fields into the array.
+// A refusal: its number, and its fields and its area into the array.
 pub(crate) fn refuse(e: TpmError, out: &mut Numbers) -> u32
-    ensures { λ r. ⌜ r ≡ first (numbered e) ⌝ }
+    ensures { λ r. ⌜ r ≡ numberOf (numbered e) ⌝ }
     ensures { λ r. ⌜ now (out .exit) ≡ refusalOver (numbered e) (now (out .entry)) ⌝ }
 {
     match e {
         TpmError::UnexpectedEnd {
+            area,
             offset,
             needed,
             available,
-        } => three(1, offset, needed, available, out),
-        TpmError::TrailingData { offset, actual } => two(2, offset, actual as u64, out),
-        TpmError::InvalidTag { offset, value } => two(3, offset, value, out),
-        TpmError::InvalidCc { offset, value } => two(4, offset, value, out),
-        TpmError::InvalidRc { offset, value } => two(5, offset, value, out),
+        } => three(1, area, offset, needed, available, out),
+        TpmError::TrailingData {
+            area,
+            offset,
+            actual,
+        } => two(2, area, offset, actual as u64, out),
+        TpmError::InvalidTag {
+            area,
+            offset,
+            value,
+        } => two(3, area, offset, value, out),
+        TpmError::InvalidCc {
+            area,
+            offset,
+            value,
+        } => two(4, area, offset, value, out),
+        TpmError::InvalidRc {
+            area,
+            offset,
+            value,
+        } => two(5, area, offset, value, out),
         TpmError::TooManyItems {
+            area,
             offset,
             limit,
             actual,
-        } => three(6, offset, limit, actual, out),
+        } => three(6, area, offset, limit, actual, out),
         TpmError::TooManyBytes {
+            area,
             offset,
             limit,
             actual,
-        } => three(8, offset, limit, actual, out),
+        } => three(8, area, offset, limit, actual, out),
         TpmError::BufferOverflow {
+            area,
             offset,
             needed,
             available,
-        } => three(9, offset, needed, available, out),
+        } => three(9, area, offset, needed, available, out),
     }
 }
 
 // A writer's: the same, and 7.
 fn refuse_writing(e: WriteError, out: &mut Numbers) -> u32
-    ensures { λ r. ⌜ r ≡ first (writerNumbered e) ⌝ }
+    ensures { λ r. ⌜ r ≡ numberOf (writerNumbered e) ⌝ }
     ensures { λ r. ⌜ now (out .exit) ≡ refusalOver (writerNumbered e) (now (out .entry)) ⌝ }
 {
     match e {
         WriteError::Common(e) => refuse(e, out),
-        WriteError::IntegerTooLarge { offset, value } => two(7, offset, value, out),
+        WriteError::IntegerTooLarge { offset, value } => two(7, Area::None, offset, value, out),
     }
 }
 

@@ -31,7 +31,7 @@ pub extern "C" fn skein_response_cast(rules: u32, s: &[u8], out: &mut Numbers) -
     ensures { λ r. ⌜ Reports ends (under rules λ book. whole (now (s .entry)) (castResponse book (now (s .entry)))) (now (out .entry)) (now (out .exit)) r ⌝ }
 {
     match rules_named(rules) {
-        Named::Unknown(n) => out::two(UNKNOWN, 0, n as u64, out),
+        Named::Unknown(n) => out::unnamed(UNKNOWN, n, out),
         Named::Is(by) => out::range(frame::response::cast_range(by, s), out),
     }
 }
@@ -42,7 +42,7 @@ pub extern "C" fn skein_response_cast_prefix(rules: u32, s: &[u8], out: &mut Num
     ensures { λ r. ⌜ Reports (partAndTail (length (now (s .entry)))) (under rules λ book. upTo (castResponsePrefix book (now (s .entry)))) (now (out .entry)) (now (out .exit)) r ⌝ }
 {
     match rules_named(rules) {
-        Named::Unknown(n) => out::two(UNKNOWN, 0, n as u64, out),
+        Named::Unknown(n) => out::unnamed(UNKNOWN, n, out),
         Named::Is(by) => out::with_tail(frame::response::cast_prefix_range(by, s), s.len(), out),
     }
 }
@@ -52,7 +52,7 @@ pub extern "C" fn skein_response_validate(rules: u32, cc: u32, s: &[u8], out: &m
     ensures { λ r. ⌜ Reports none (under rules λ book. done (readResponse book cc (now (s .entry)))) (now (out .entry)) (now (out .exit)) r ⌝ }
 {
     match rules_named(rules) {
-        Named::Unknown(n) => out::two(UNKNOWN, 0, n as u64, out),
+        Named::Unknown(n) => out::unnamed(UNKNOWN, n, out),
         Named::Is(by) => out::outcome(frame::response::validate(by, TpmCc(cc), s), out),
     }
 }
@@ -62,7 +62,7 @@ pub extern "C" fn skein_response_rc(rules: u32, s: &[u8], out: &mut Numbers) -> 
     ensures { λ r. ⌜ Reports one (under rules λ book. readRc book (now (s .entry))) (now (out .entry)) (now (out .exit)) r ⌝ }
 {
     match rules_named(rules) {
-        Named::Unknown(n) => out::two(UNKNOWN, 0, n as u64, out),
+        Named::Unknown(n) => out::unnamed(UNKNOWN, n, out),
         Named::Is(by) => out::response_code(frame::response::rc(by, s), out),
     }
 }
@@ -73,7 +73,7 @@ pub extern "C" fn skein_response_set_rc(rules: u32, rc: u32, s: &mut [u8], out: 
     ensures { λ r. ⌜ now (s .exit) ≡ after (now (s .entry)) (under rules λ book. setRc book rc (now (s .entry))) ⌝ }
 {
     match rules_named(rules) {
-        Named::Unknown(n) => out::two(UNKNOWN, 0, n as u64, out),
+        Named::Unknown(n) => out::unnamed(UNKNOWN, n, out),
         Named::Is(by) => out::outcome(frame::response::set_rc(by, s, TpmRc(rc)), out),
     }
 }
@@ -118,7 +118,7 @@ pub extern "C" fn skein_response_parts(
 {
     match rules_named(rules) {
         Named::Unknown(n) => ResponseParts {
-            refusal: out::two(UNKNOWN, 0, n as u64, out),
+            refusal: out::unnamed(UNKNOWN, n, out),
             response: no_response(),
         },
         Named::Is(by) => match frame::response::parts(by, TpmCc(cc), s) {
@@ -151,7 +151,7 @@ pub extern "C" fn skein_response_write(
     ensures { λ r. ⌜ now (room .exit) ≡ roomAfter (now (room .entry)) (underMode rules λ book asked. writeResponse book asked cc rc (handed (now (handles .entry)) sessions (now (lent .entry)) (now (parameters .entry))) (length (now (room .entry)))) ⌝ }
 {
     match mode_named(rules) {
-        NamedMode::Unknown(n) => out::two(UNKNOWN, 0, n as u64, out),
+        NamedMode::Unknown(n) => out::unnamed(UNKNOWN, n, out),
         NamedMode::Is(by) => {
             let written = marshal::response::write(
                 by,

@@ -10,12 +10,13 @@ use borrow.Author.Tests.{le-leb}
 use lib.Dec.{eqb, leb}
 use lib.ListN.{length, take, drop, length-take}
 use lib.Seq.{length-take-le}
+use Rattle.base.specs.declared.error.Area.the-variants.{Header, Authorization}
 use Rattle.base.specs.Bytes.{AreBytes}
 use Rattle.base.specs.Members.{isIn}
 use Rattle.base.specs.Parts.{heldAt}
-use Rattle.base.specs.Said.{gives}
+use Rattle.base.specs.Said.{within, gives}
 use Rattle.base.proofs.Bytes.{are-bytes-take, are-bytes-drop}
-use Rattle.base.proofs.Checks.{needs-gives, then-gives, gives-injective}
+use Rattle.base.proofs.Checks.{needs-gives, then-gives, then-within, gives-injective}
 use Rattle.base.proofs.Places.{At}
 use Rattle.table.specs.Table.{rowFor}
 use Rattle.table.specs.Tags.{tags}
@@ -68,7 +69,7 @@ module _ (book : Rulebook) where
     code-known : isIn (codeOf s) (book .known) ≡ true
     has-row : rowFor (book .rows) (codeOf s) ≡ gives row
     room : 10 + 4 * row .handles ≤ length s
-    sized : sizedArea (eqb (tagOf s) sessions) (10 + 4 * row .handles) s (10 + 4 * row .handles) ≡ gives (d .areas)
+    sized : sizedArea Authorization (eqb (tagOf s) sessions) (10 + 4 * row .handles) s (10 + 4 * row .handles) ≡ gives (d .areas)
     walked : walk (book .longest) 3 4 (take (d .areas .to) s) (d .areas .from) ≡ gives (d .entries)
 
   steps-taken : (s : List ℕ) (d : Division) → readCommand book s ≡ gives d → Steps s d
@@ -85,7 +86,7 @@ module _ (book : Rulebook) where
       let header = needs-gives (leb 10 (length s)) _ _ (coded .1) in
       let listed = needs-gives (isIn (codeOf s) (book .known)) _ _ (header .1) in
       let code : codeOf s ≡ coded .0 = gives-injective (listed .1) in
-      let found = then-gives (rowFor (book .rows) (coded .0)) _ (coded .2) in
+      let found = then-within Header (rowFor (book .rows) (coded .0)) _ (coded .2) in
       let whole = whole-sound s (cast .1) in
       let handles = handles-sound s (found .0 .handles) (whole .0) (found .2) in
       subst (Steps s) (gives-injective (walked .2))
@@ -98,7 +99,7 @@ module _ (book : Rulebook) where
         code-known = listed .0;
         has-row = ap (rowFor (book .rows)) code ∙ found .1;
         room = handles .1;
-        sized = ap (λ (h : ℕ). sizedArea (eqb (tagOf s) sessions) h s h) (sym (handles .0)) ∙ tagged .1;
+        sized = ap (λ (h : ℕ). sizedArea Authorization (eqb (tagOf s) sessions) h s h) (sym (handles .0)) ∙ tagged .1;
         walked = walked .1;
       })
 
@@ -139,7 +140,7 @@ module _ (book : Rulebook) where
       let h : ℕ = 10 + 4 * t .row .handles in
       let to : ℕ = d .areas .to in
       let room = t .room in
-      let ends = plain-places h h s (rw q at (t .sized)) in
+      let ends = plain-places Authorization h h s (rw q at (t .sized)) in
       let short : length (take to s) ≡ to = length-take-le to s (omega arith) in
       let walked : gives (d .entries) ≡ gives [] = sym (t .walked) ∙ walk-end (book .longest) 3 4 (take to s) (d .areas .from) (omega arith) in
       ap (entriesIn s) (gives-injective walked)
@@ -149,7 +150,7 @@ module _ (book : Rulebook) where
         × (10 + 4 * t .row .handles ≤ d .areas .from) × (d .areas .from ≤ d .areas .to) × (d .areas .to ≤ length s)
     places-order =
         let h : ℕ = 10 + 4 * t .row .handles in
-        sized-order (eqb (tagOf s) sessions) h h s (le-refl h) (t .room) (t .sized)
+        sized-order Authorization (eqb (tagOf s) sessions) h h s (le-refl h) (t .room) (t .sized)
 
     -- the entries stand in the sized bytes and fill them
     entries-stand : At s (d .areas .from) (layoutEntries 4 (entriesIn s (d .entries)))
@@ -177,7 +178,7 @@ module _ (book : Rulebook) where
       let handles = at-between s 10 (d .areas .handles) (omega arith) (omega arith) in
       let rest = at-between s to (length s) (order .3) (le-refl (length s)) in
       let again : layoutCommand (parts s d) ≡ s =
-      frame-again h h s p (t .size-is) (t .sized) (record {
+      frame-again Authorization h h s p (t .size-is) (t .sized) (record {
         handles-at = handles .0;
         handles-end = handles .1;
         sized-at = stand .0;
@@ -255,7 +256,7 @@ module _ (book : Rulebook) where
       let handles : commandHandles book s ≡ gives (10 + 4 * t .row .handles) = handles-pass s d t in
       let areas : commandAreas book s ≡ gives (d .areas) = areas-pass s d t in
       let same : d .areas .handles ≡ 10 + 4 * t .row .handles =
-      sized-order (eqb (tagOf s) sessions) (10 + 4 * t .row .handles) (10 + 4 * t .row .handles) s (omega arith) (t .room) (t .sized) .0 in
+      sized-order Authorization (eqb (tagOf s) sessions) (10 + 4 * t .row .handles) (10 + 4 * t .row .handles) s (omega arith) (t .room) (t .sized) .0 in
       rw (← gives-injective (read .2), handles, areas, same) (refl, refl, refl)
 
   -- ---- the layout of well-formed parts passes, and they are the parts read
@@ -265,7 +266,7 @@ module _ (book : Rulebook) where
     module _ (f : Frame) (row : Row) (found : rowFor (book .rows) (f .code) ≡ gives row) (w : WellFormed (book .longest) 4 (row .handles) f) (s : List ℕ)
         (framed : Framed s (f .tag) (f .code) (layoutBody (f .tag) (f .handles) (layoutEntries 4 (f .entries)) (f .parameters))) where
       module _ (areas : Areas) (held : Holds s areas (f .handles) (layoutEntries 4 (f .entries)) (f .parameters))
-          (sized : sizedArea (eqb (f .tag) sessions) (10 + 4 * row .handles) s (10 + 4 * row .handles) ≡ gives areas) where
+          (sized : sizedArea Authorization (eqb (f .tag) sessions) (10 + 4 * row .handles) s (10 + 4 * row .handles) ≡ gives areas) where
         -- from where the parts stand to the division
         with-entries : (ds : List Session) → walk (book .longest) 3 4 (take (areas .to) s) (areas .from) ≡ gives ds
             → areas .from ≤ length (take (areas .to) s) → entriesIn (take (areas .to) s) ds ≡ f .entries
@@ -321,7 +322,7 @@ module _ (book : Rulebook) where
         let framed = frame-complete (f .tag) (f .code) body (tag-fits (f .tag) (is-of-two (f .tag) (w .tag-of-two))) (w .code-fits) (omega arith) in
         let count : 10 + length (f .handles) ≡ h = ap (λ (n : ℕ). 10 + n) (w .handle-count) in
         let stop : eqb (f .tag) sessions ≡ false → h + length entries ≡ h = λ q. rw (w .plain-entries q) (omega arith) in
-        let sized = sized-complete (eqb (f .tag) sessions) h h s (f .handles) entries (f .parameters) small count stop (framed .body-at) (framed .body-long) in
+        let sized = sized-complete Authorization (eqb (f .tag) sessions) h h s (f .handles) entries (f .parameters) small count stop (framed .body-at) (framed .body-long) in
         with-areas f (c .row) (c .has-row) w s framed (sized .0) (sized .2) (sized .1)
 
     -- ---- and so of what is given back by value

@@ -8,10 +8,12 @@ use native.Mathlib.Omega.{arith}
 use borrow.Author.Tests.{le-leb, lt-leb, leb-true}
 use lib.Dec.{eqb, leb}
 use lib.ListN.{length, take}
+use Rattle.base.specs.declared.error.Area.{Area}
+use Rattle.base.specs.declared.error.Area.the-variants.{Header, Handles, Authorization, Parameters}
 use Rattle.base.specs.Field.{readField}
 use Rattle.base.specs.Members.{isIn}
-use Rattle.base.specs.Said.{Said, gives, refuses, then, done}
-use Rattle.base.proofs.Checks.{passes, fails, goes-on, stops, needs-gives, then-gives, done-gives, done-refuses, gives-injective}
+use Rattle.base.specs.Said.{Why, inArea, Said, gives, refuses, then, within, done}
+use Rattle.base.proofs.Checks.{passes, fails, goes-on, stops, needs-gives, then-gives, then-within, done-gives, done-refuses, gives-injective}
 use Rattle.table.specs.Table.{rowFor}
 use Rattle.table.specs.Tags.{tags}
 use Rattle.table.specs.declared.row.Row.{Row}
@@ -38,7 +40,7 @@ use Rattle.frame.proofs.Headers.{command-tag-is, whole-fits}
 
 module _ (h : ℕ) (s : List ℕ) where
   pub handles-short : {left : ℕ} → left ≡ length s - 10 → left < 4 * h
-      → refuses (1 ∷ 10 ∷ (4 * h) ∷ left ∷ []) ≡ handleArea h s
+      → refuses (inArea Handles (1 ∷ 10 ∷ (4 * h) ∷ left ∷ [])) ≡ handleArea h s
   unfolding handleArea
   handles-short {left} e short = rw e (fails (leb (4 * h) (length s - 10)) _ _ (lt-leb (4 * h) (length s - 10) (omega arith)))
 
@@ -55,32 +57,32 @@ module _ (h : ℕ) (s : List ℕ) where
       let is = gives-injective (enough .1) in
       (omega arith, omega arith)
 
-module _ (end : ℕ) (s : List ℕ) (p : ℕ) where
-  pub sized-plain : {t : Bool} → t ≡ false → gives (record { handles = p; from = p; to = end }) ≡ sizedArea t end s p
+module _ (area : Area) (end : ℕ) (s : List ℕ) (p : ℕ) where
+  pub sized-plain : {t : Bool} → t ≡ false → gives (record { handles = p; from = p; to = end }) ≡ sizedArea area t end s p
   unfolding sizedArea
   sized-plain e = rw e
 
   module _ {t : Bool} (e : t ≡ true) where
-    pub size-refused : {why : List ℕ} → refuses why ≡ readField 4 p s → refuses why ≡ sizedArea t end s p
+    pub size-refused : {why : Why} → refuses why ≡ within area (readField 4 p s) → refuses why ≡ sizedArea area t end s p
     unfolding sizedArea
-    size-refused read = rw e (stops (readField 4 p s) _ read)
+    size-refused read = rw e (stops (within area (readField 4 p s)) _ read)
 
-    module _ {n : ℕ} (read : gives n ≡ readField 4 p s) where
+    module _ {n : ℕ} (read : gives n ≡ within area (readField 4 p s)) where
       pub sized-short : length s - (p + 4) < n
-          → refuses (1 ∷ (p + 4) ∷ n ∷ (length s - (p + 4)) ∷ []) ≡ sizedArea t end s p
+          → refuses (inArea area (1 ∷ (p + 4) ∷ n ∷ (length s - (p + 4)) ∷ [])) ≡ sizedArea area t end s p
       unfolding sizedArea
       sized-short short =
-          rw e (fails (leb n (length s - (p + 4))) _ _ (lt-leb n (length s - (p + 4)) short) ∙ goes-on (readField 4 p s) _ read)
+          rw e (fails (leb n (length s - (p + 4))) _ _ (lt-leb n (length s - (p + 4)) short) ∙ goes-on (within area (readField 4 p s)) _ read)
 
       pub sized-read : n ≤ length s - (p + 4)
-          → gives (record { handles = p; from = p + 4; to = p + 4 + n }) ≡ sizedArea t end s p
+          → gives (record { handles = p; from = p + 4; to = p + 4 + n }) ≡ sizedArea area t end s p
       unfolding sizedArea
       sized-read enough =
-          rw e (passes (leb n (length s - (p + 4))) _ _ (le-leb n (length s - (p + 4)) enough) ∙ goes-on (readField 4 p s) _ read)
+          rw e (passes (leb n (length s - (p + 4))) _ _ (le-leb n (length s - (p + 4)) enough) ∙ goes-on (within area (readField 4 p s)) _ read)
 
   -- a size that was read stands within the bytes
-  pub size-there : {n : ℕ} → gives n ≡ readField 4 p s → p + 4 ≤ length s
-  size-there read = field-there 4 p s (omega arith) read
+  pub size-there : {n : ℕ} → gives n ≡ within area (readField 4 p s) → p + 4 ≤ length s
+  size-there read = field-there area 4 p s (omega arith) read
 
 -- ---- commands
 
@@ -90,27 +92,27 @@ module _ (book : Rulebook) (s : List ℕ) where
   command-header e =
       let code = then-gives (readCc book s) _ (sym e) in
       let there = needs-gives (leb 10 (length s)) _ _ (code .1) in
-      let row = then-gives (rowFor (book .rows) (code .0)) _ (code .2) in
+      let row = then-within Header (rowFor (book .rows) (code .0)) _ (code .2) in
       let ten = leb-true 10 (length s) (there .0) in
       let fits = handles-fit (row .0 .handles) s ten (sym (row .2)) in
       (ten, fits .0, fits .1)
 
   module _ {p : ℕ} (e : gives p ≡ commandHandles book s) where
-    pub areas-tag-refused : {n : ℕ} → n ≡ tagOf s → isIn n tags ≡ false → refuses (3 ∷ 0 ∷ n ∷ []) ≡ commandAreas book s
+    pub areas-tag-refused : {n : ℕ} → n ≡ tagOf s → isIn n tags ≡ false → refuses (inArea Header (3 ∷ 0 ∷ n ∷ [])) ≡ commandAreas book s
     unfolding commandAreas
     areas-tag-refused {n} is unknown =
-        rw is (fails (isIn (tagOf s) tags) _ (sizedArea (eqb (tagOf s) sessions) p s p) (rw (← is) unknown))
+        rw is (fails (isIn (tagOf s) tags) _ (sizedArea Authorization (eqb (tagOf s) sessions) p s p) (rw (← is) unknown))
         ∙ goes-on (commandHandles book s) _ e
 
-    pub areas-sized : {n : ℕ} → n ≡ tagOf s → isIn n tags ≡ true → sizedArea (eqb n sessions) p s p ≡ commandAreas book s
+    pub areas-sized : {n : ℕ} → n ≡ tagOf s → isIn n tags ≡ true → sizedArea Authorization (eqb n sessions) p s p ≡ commandAreas book s
     unfolding commandAreas
     areas-sized {n} is member =
-        rw is (passes (isIn (tagOf s) tags) _ (sizedArea (eqb (tagOf s) sessions) p s p) (rw (← is) member))
+        rw is (passes (isIn (tagOf s) tags) _ (sizedArea Authorization (eqb (tagOf s) sessions) p s p) (rw (← is) member))
         ∙ goes-on (commandHandles book s) _ e
 
   -- a tag of the two is known, so the areas go on from the handles
   pub judged-sized : {tag p : ℕ} → gives tag ≡ readCommandTag s → gives p ≡ commandHandles book s
-      → sizedArea (eqb tag sessions) p s p ≡ judgeCommand book s
+      → sizedArea Authorization (eqb tag sessions) p s p ≡ judgeCommand book s
   unfolding judgeCommand
   judged-sized read handles =
       let of = command-tag-is s read in
@@ -123,7 +125,7 @@ module _ (book : Rulebook) (s : List ℕ) where
       let handles = then-gives (commandHandles book s) _ (sym e) in
       let tag = needs-gives (isIn (tagOf s) tags) _ _ (handles .2) in
       let at = command-header (sym (handles .1)) in
-      let fits = sized-order (eqb (tagOf s) sessions) (handles .0) (handles .0) s (omega arith) (at .2) (tag .1) in
+      let fits = sized-order Authorization (eqb (tagOf s) sessions) (handles .0) (handles .0) s (omega arith) (at .2) (tag .1) in
       (at .0, rw (fits .0) (at .1), rw (fits .0) (fits .1), fits .2, fits .3)
 
   pub cast-fits : {a : Areas} → gives a ≡ castCommand book s
@@ -146,11 +148,11 @@ module _ (book : Rulebook) (s : List ℕ) where
   forError tag = eqb tag plain || isRspCommand book tag
 
   module _ {n : ℕ} (is : n ≡ tagOf s) where
-    pub error-tag : forError n ≡ false → refuses (3 ∷ 0 ∷ n ∷ []) ≡ errorAreas book s
+    pub error-tag : forError n ≡ false → refuses (inArea Header (3 ∷ 0 ∷ n ∷ [])) ≡ errorAreas book s
     unfolding errorAreas
     error-tag other = rw is (fails (forError (tagOf s)) _ _ (rw (← is) other))
 
-    pub error-long : forError n ≡ true → 10 < length s → refuses (2 ∷ 10 ∷ (length s - 10) ∷ []) ≡ errorAreas book s
+    pub error-long : forError n ≡ true → 10 < length s → refuses (inArea Header (2 ∷ 10 ∷ (length s - 10) ∷ [])) ≡ errorAreas book s
     unfolding errorAreas
     error-long one long = fails (leb (length s) 10) _ _ (lt-leb (length s) 10 long) ∙ passes (forError (tagOf s)) _ _ (rw (← is) one)
 
@@ -160,22 +162,22 @@ module _ (book : Rulebook) (s : List ℕ) where
 
   module _ (cc : ℕ) where
     module _ {code : ℕ} (read : gives code ≡ castResponse book s) where
-      pub areas-no-row : {why : List ℕ} → refuses why ≡ rowFor (book .rows) cc → refuses why ≡ responseAreas book cc s
+      pub areas-no-row : {why : Why} → refuses why ≡ within Header (rowFor (book .rows) cc) → refuses why ≡ responseAreas book cc s
       unfolding responseAreas
-      areas-no-row e = stops (rowFor (book .rows) cc) _ e ∙ goes-on (castResponse book s) _ read
+      areas-no-row e = stops (within Header (rowFor (book .rows) cc)) _ e ∙ goes-on (castResponse book s) _ read
 
-      module _ {row : Row} (e : gives row ≡ rowFor (book .rows) cc) where
+      module _ {row : Row} (e : gives row ≡ within Header (rowFor (book .rows) cc)) where
         pub areas-success : eqb code 0 ≡ true → successAreas (row .responses) s ≡ responseAreas book cc s
         unfolding responseAreas
         areas-success is =
             ap (λ (t : Bool). cond t (successAreas (row .responses) s) (errorAreas book s)) (sym is)
-            ∙ goes-on (rowFor (book .rows) cc) _ e ∙ goes-on (castResponse book s) _ read
+            ∙ goes-on (within Header (rowFor (book .rows) cc)) _ e ∙ goes-on (castResponse book s) _ read
 
         pub areas-error : eqb code 0 ≡ false → errorAreas book s ≡ responseAreas book cc s
         unfolding responseAreas
         areas-error is =
             ap (λ (t : Bool). cond t (successAreas (row .responses) s) (errorAreas book s)) (sym is)
-            ∙ goes-on (rowFor (book .rows) cc) _ e ∙ goes-on (castResponse book s) _ read
+            ∙ goes-on (within Header (rowFor (book .rows) cc)) _ e ∙ goes-on (castResponse book s) _ read
 
     pub read-header : {a : Areas} → gives a ≡ responseAreas book cc s → 10 ≤ length s
     unfolding responseAreas
@@ -202,11 +204,11 @@ module _ (areas : Said Areas) (entries : Areas → Said (List Session)) where
   abbrev pub divided : Said Division
   divided = then areas λ a. then (entries a) λ es. gives (record { areas = a; entries = es })
 
-  pub areas-refused : {why : List ℕ} → refuses why ≡ areas → refuses why ≡ divided
+  pub areas-refused : {why : Why} → refuses why ≡ areas → refuses why ≡ divided
   areas-refused e = stops areas _ e
 
   module _ {a : Areas} (e : gives a ≡ areas) where
-    pub walk-refused : {why : List ℕ} → refuses why ≡ done (entries a) → refuses why ≡ divided
+    pub walk-refused : {why : Why} → refuses why ≡ done (entries a) → refuses why ≡ divided
     walk-refused refused = stops (entries a) _ (done-refuses (entries a) refused) ∙ goes-on areas _ e
 
     pub walk-done : gives tt ≡ done (entries a) → gives a ≡ areasOf divided
@@ -283,7 +285,7 @@ module _ (areas : Said Areas) (entries : Areas → Said (List Session)) {d : Div
 
 -- a read by what is told of its areas
 module _ (read : Said Division) where
-  pub not-divided : {why : List ℕ} → refuses why ≡ areasOf read → refuses why ≡ read
+  pub not-divided : {why : Why} → refuses why ≡ areasOf read → refuses why ≡ read
   not-divided e = step-refused (λ (d : Division). d .areas) read e
 
   pub was-divided : {a : Areas} → gives a ≡ areasOf read → gives tt ≡ done read

@@ -8,12 +8,13 @@ use native.Mathlib.Omega.{arith}
 use borrow.Author.Tests.{le-leb, leb-true}
 use lib.Dec.{leb}
 use lib.ListN.{length, take, drop, length-append}
+use Rattle.base.specs.declared.error.Area.the-variants.{Authorization}
 use Rattle.base.specs.Bytes.{AreBytes, number, bytes}
 use Rattle.base.specs.Field.{readField}
 use Rattle.base.specs.Said.{gives}
 use Rattle.base.specs.Tpm2b.{tpm2b}
 use Rattle.base.proofs.Bytes.{length-bytes, number-bytes, bytes-number, number-lt, one-byte, are-bytes-take, are-bytes-drop}
-use Rattle.base.proofs.Checks.{needs-gives, then-gives, gives-injective}
+use Rattle.base.proofs.Checks.{needs-gives, then-gives, then-within, gives-injective}
 use Rattle.base.proofs.Places.{At, at-moved, at-first, at-second, at-both, at-read, length-read}
 use Rattle.base.proofs.Tpm2b.{length-tpm2b}
 use Rattle.frame.specs.declared.session.Session.{Session}
@@ -49,7 +50,7 @@ module _ (limit : ℕ) (s : List ℕ) (place : ℕ) where
   pub tpm2b-fits : {n : ℕ} → readTpm2b limit s place ≡ gives n → (readField 2 place s ≡ gives n) × (place + 2 + n ≤ length s) × (n ≤ limit)
   unfolding readTpm2b
   tpm2b-fits {n} e =
-      let size = then-gives (readField 2 place s) _ e in
+      let size = then-within Authorization (readField 2 place s) _ e in
       let short = needs-gives (leb (size .0) limit) _ _ (size .2) in
       let whole = needs-gives (leb (2 + size .0) (length s - place)) _ _ (short .1) in
       let within = leb-true (size .0) limit (short .0) in
@@ -122,9 +123,9 @@ module _ (limit width : ℕ) (s : List ℕ) (place : ℕ) where
   entry-read : {e : Session} → readEntry limit width s place ≡ gives e → Read e
   unfolding readEntry readSigned
   entry-read e =
-      let h = then-gives (readField width place s) _ e in
+      let h = then-within Authorization (readField width place s) _ e in
       let n = then-gives (readTpm2b limit s (place + width)) _ (h .2) in
-      let a = then-gives (readField 1 (place + width + 2 + n .0) s) _ (n .2) in
+      let a = then-within Authorization (readField 1 (place + width + 2 + n .0) s) _ (n .2) in
       let m = then-gives (readTpm2b limit s (place + width + 2 + n .0 + 1)) _ (a .2) in
       record {
         handle = h .0;
@@ -144,6 +145,10 @@ module _ (limit width : ℕ) (s : List ℕ) (place : ℕ) where
       let r = entry-read e in
       let inside = tpm2b-fits limit s (place + width) (r .nonce-read) .1 in
       omega arith
+
+  -- and ends behind its start
+  pub entry-behind : {e : Session} → readEntry limit width s place ≡ gives e → place ≤ behind e
+  entry-behind e = let r = entry-read e in subst (λ (x : Session). place ≤ behind x) (r .is-told) (omega arith)
 
   -- its nonce and its HMAC are within the limit, and stay inside
   pub entry-inside : {e : Session} → readEntry limit width s place ≡ gives e

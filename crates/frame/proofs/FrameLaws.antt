@@ -11,12 +11,13 @@ use native.Mathlib.Omega.{arith}
 use borrow.Author.Tests.{le-leb, leb-true, eqb-true}
 use lib.Dec.{eqb, leb}
 use lib.ListN.{length, length-append}
+use Rattle.base.specs.declared.error.Area.{Area}
 use Rattle.base.specs.Bytes.{AreBytes, bytes}
 use Rattle.base.specs.Field.{readField}
 use Rattle.base.specs.Members.{isIn}
 use Rattle.base.specs.Said.{gives}
 use Rattle.base.proofs.Bytes.{length-bytes}
-use Rattle.base.proofs.Checks.{needs-gives, then-gives, gives-injective}
+use Rattle.base.proofs.Checks.{needs-gives, then-gives, then-within, gives-injective}
 use Rattle.base.proofs.Places.{At, at-first, at-second, at-both, at-all, at-whole}
 use Rattle.frame.specs.Header.{tagOf, sizeOf, codeOf, tagOfThose, framePrefix, frameWhole, plain, sessions, isOfTwo, isResponseTag, readCommandTag, readResponseTag}
 use Rattle.frame.specs.Rules.{Rulebook}
@@ -180,12 +181,12 @@ module _ (s : List ℕ) where
   handles-complete n h = simp (le-leb (4 * n) (length s - 10) (omega arith))
 
 -- the areas that are read lie in order
-pub sized-order : (b : Bool) (end h : ℕ) (s : List ℕ) {areas : Areas} → h ≤ end → end ≤ length s → sizedArea b end s h ≡ gives areas
+pub sized-order : (area : Area) (b : Bool) (end h : ℕ) (s : List ℕ) {areas : Areas} → h ≤ end → end ≤ length s → sizedArea area b end s h ≡ gives areas
     → (areas .handles ≡ h) × (h ≤ areas .from) × (areas .from ≤ areas .to) × (areas .to ≤ length s)
 unfolding sizedArea
-sized-order false end h s low high e = rw (← gives-injective e) (refl, le-refl h, low, high)
-sized-order true end h s low high e =
-    let read = then-gives (readField 4 h s) _ e in
+sized-order area false end h s low high e = rw (← gives-injective e) (refl, le-refl h, low, high)
+sized-order area true end h s low high e =
+    let read = then-within area (readField 4 h s) _ e in
     let size : ℕ = read .0 in
     let four = leb-true 4 (length s - h) (needs-gives (leb 4 (length s - h)) _ _ (read .1) .0) in
     let there = needs-gives (leb size (length s - (h + 4))) _ _ (read .2) in
@@ -193,22 +194,22 @@ sized-order true end h s low high e =
     rw (← gives-injective (there .1)) (refl, omega arith, omega arith, omega arith)
 
 -- without a size they start where the handles end, and end where they were told to
-pub plain-places : (end h : ℕ) (s : List ℕ) {areas : Areas} → sizedArea false end s h ≡ gives areas → (areas .from ≡ h) × (areas .to ≡ end)
+pub plain-places : (area : Area) (end h : ℕ) (s : List ℕ) {areas : Areas} → sizedArea area false end s h ≡ gives areas → (areas .from ≡ h) × (areas .to ≡ end)
 unfolding sizedArea
-plain-places end h s e = rw (← gives-injective e) (refl, refl)
+plain-places area end h s e = rw (← gives-injective e) (refl, refl)
 
 -- what they hold is laid out behind the header
-pub sized-sound : (b : Bool) (end h : ℕ) (s : List ℕ) {areas : Areas} {handles sized rest : List ℕ} → AreBytes s
-    → sizedArea b end s h ≡ gives areas → Holds s areas handles sized rest
+pub sized-sound : (area : Area) (b : Bool) (end h : ℕ) (s : List ℕ) {areas : Areas} {handles sized rest : List ℕ} → AreBytes s
+    → sizedArea area b end s h ≡ gives areas → Holds s areas handles sized rest
     → At s 10 (bodyOf b handles sized rest) × (10 + length (bodyOf b handles sized rest) ≡ length s)
 unfolding sizedArea
-sized-sound false end h s {areas} {handles} {sized} {rest} p e holds =
+sized-sound area false end h s {areas} {handles} {sized} {rest} p e holds =
     let held : Holds s (record { handles = h; from = h; to = end }) handles sized rest = rw (← gives-injective e) at holds in (
       at-both (held .handles-at) (rw (held .handles-end) (at-both (held .sized-at) (rw (held .sized-end) (held .rest-at)))),
       simp length-append (omega arith),
     )
-sized-sound true end h s {areas} {handles} {sized} {rest} p e holds =
-    let read = then-gives (readField 4 h s) _ e in
+sized-sound area true end h s {areas} {handles} {sized} {rest} p e holds =
+    let read = then-within area (readField 4 h s) _ e in
     let size : ℕ = read .0 in
     let there = needs-gives (leb size (length s - (h + 4))) _ _ (read .2) in
     let held : Holds s (record { handles = h; from = h + 4; to = h + 4 + size }) handles sized rest = rw (← gives-injective (there .1)) at holds in
@@ -221,19 +222,19 @@ sized-sound true end h s {areas} {handles} {sized} {rest} p e holds =
     )
 
 -- and so the frame of what they hold is the bytes again
-pub frame-again : (end h : ℕ) (s : List ℕ) {areas : Areas} {handles sized rest : List ℕ} → AreBytes s → sizeOf s ≡ length s
-    → sizedArea (eqb (tagOf s) sessions) end s h ≡ gives areas → Holds s areas handles sized rest
+pub frame-again : (area : Area) (end h : ℕ) (s : List ℕ) {areas : Areas} {handles sized rest : List ℕ} → AreBytes s → sizeOf s ≡ length s
+    → sizedArea area (eqb (tagOf s) sessions) end s h ≡ gives areas → Holds s areas handles sized rest
     → layoutFrame (tagOf s) (codeOf s) (layoutBody (tagOf s) handles sized rest) ≡ s
-frame-again end h s p size e holds =
-    let body = sized-sound (eqb (tagOf s) sessions) end h s p e holds in
+frame-again area end h s p size e holds =
+    let body = sized-sound area (eqb (tagOf s) sessions) end h s p e holds in
     frame-sound p (record { tag-is = refl; code-is = refl; size-is = size; body-at = body .0; body-long = body .1 })
 
 -- parts that are laid out behind the header are held by the areas read
-pub sized-complete : (b : Bool) (end h : ℕ) (s handles sized rest : List ℕ) → length s < 4294967296 → 10 + length handles ≡ h
+pub sized-complete : (area : Area) (b : Bool) (end h : ℕ) (s handles sized rest : List ℕ) → length s < 4294967296 → 10 + length handles ≡ h
     → (b ≡ false → h + length sized ≡ end) → At s 10 (bodyOf b handles sized rest) → 10 + length (bodyOf b handles sized rest) ≡ length s
-    → (areas : Areas) × (sizedArea b end s h ≡ gives areas) × Holds s areas handles sized rest
+    → (areas : Areas) × (sizedArea area b end s h ≡ gives areas) × Holds s areas handles sized rest
 unfolding sizedArea
-sized-complete false end h s handles sized rest small count stop a all =
+sized-complete area false end h s handles sized rest small count stop a all =
     let ends = stop refl in
     let long : 10 + (length handles + (0 + (length sized + length rest))) ≡ length s = simp length-append at all in
     let behind : At s h (sized ++ rest) = rw count at (at-second handles (sized ++ rest) a) in (
@@ -248,7 +249,7 @@ sized-complete false end h s handles sized rest small count stop a all =
         rest-end = omega arith;
       },
     )
-sized-complete true end h s handles sized rest small count stop a all =
+sized-complete area true end h s handles sized rest small count stop a all =
     let long : 10 + (length handles + (4 + (length sized + length rest))) ≡ length s = simp (length-append, length-bytes) at all in
     let body : List ℕ = bytes 4 (length sized) ++ (sized ++ rest) in
     let behind = at-split 4 (bytes 4 (length sized)) (sized ++ rest) (length-bytes 4 (length sized)) (rw count at (at-second handles body a)) in

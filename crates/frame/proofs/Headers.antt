@@ -8,10 +8,11 @@ use native.Mathlib.Omega.{arith}
 use borrow.Author.Tests.{le-leb, lt-leb, leb-true}
 use lib.Dec.{leb}
 use lib.ListN.{length}
+use Rattle.base.specs.declared.error.Area.the-variants.{Header}
 use Rattle.base.specs.Bytes.{number}
 use Rattle.base.specs.Field.{writeField}
 use Rattle.base.specs.Members.{isIn}
-use Rattle.base.specs.Said.{Said, gives, refuses, done, after}
+use Rattle.base.specs.Said.{inArea, Why, within, Said, gives, refuses, done, after}
 use Rattle.base.proofs.Checks.{passes, fails, goes-on, stops, needs-gives, then-gives, gives-injective}
 use Rattle.base.proofs.Lists.{span, take-drop-span}
 use Rattle.table.specs.Table.{rowFor}
@@ -21,7 +22,7 @@ use Rattle.frame.specs.Header.{tagOf, sizeOf, codeOf, reads, header, tag
 use Rattle.frame.specs.Rules.{Rulebook}
 
 module _ (s : List ℕ) where
-  pub short-header : {A : Type 0} (rest : Said A) → length s < 10 → refuses (1 ∷ 0 ∷ 10 ∷ length s ∷ []) ≡ header s rest
+  pub short-header : {A : Type 0} (rest : Said A) → length s < 10 → refuses (inArea Header (1 ∷ 0 ∷ 10 ∷ length s ∷ [])) ≡ header s rest
   short-header rest h = fails (leb 10 (length s)) _ rest (lt-leb 10 (length s) h)
 
   pub has-header : {A : Type 0} (rest : Said A) → 10 ≤ length s → rest ≡ header s rest
@@ -46,7 +47,7 @@ module _ (s : List ℕ) where
       pub tag-read : n ≡ tagOf s → 10 ≤ length s → isOne n ≡ true → gives n ≡ tagOfThose isOne s
       tag-read e h one = rw (← e) (passes (isOne n) _ (gives n) one ∙ has-header _ h)
 
-      pub tag-refused : n ≡ tagOf s → 10 ≤ length s → isOne n ≡ false → refuses (3 ∷ 0 ∷ n ∷ []) ≡ tagOfThose isOne s
+      pub tag-refused : n ≡ tagOf s → 10 ≤ length s → isOne n ≡ false → refuses (inArea Header (3 ∷ 0 ∷ n ∷ [])) ≡ tagOfThose isOne s
       tag-refused e h other = rw (← e) (fails (isOne n) _ (gives n) other ∙ has-header _ h)
 
     pub size-read : n ≡ sizeOf s → 10 ≤ length s → gives n ≡ readSize s
@@ -58,7 +59,7 @@ module _ (s : List ℕ) where
       unfolding readCc
       cc-read e h member = rw (← e) (passes (isIn n (book .known)) _ (gives n) member ∙ has-header _ h)
 
-      pub cc-refused : n ≡ codeOf s → 10 ≤ length s → isIn n (book .known) ≡ false → refuses (4 ∷ 6 ∷ n ∷ []) ≡ readCc book s
+      pub cc-refused : n ≡ codeOf s → 10 ≤ length s → isIn n (book .known) ≡ false → refuses (inArea Header (4 ∷ 6 ∷ n ∷ [])) ≡ readCc book s
       unfolding readCc
       cc-refused e h other = rw (← e) (fails (isIn n (book .known)) _ (gives n) other ∙ has-header _ h)
 
@@ -67,16 +68,16 @@ module _ (s : List ℕ) where
         unfolding readRc
         rc-read e f h read = rw (← e, ← f) (passes (reads book tag n) _ (gives n) read ∙ has-header _ h)
 
-        pub rc-refused : n ≡ codeOf s → tag ≡ tagOf s → 10 ≤ length s → reads book tag n ≡ false → refuses (5 ∷ 6 ∷ n ∷ []) ≡ readRc book s
+        pub rc-refused : n ≡ codeOf s → tag ≡ tagOf s → 10 ≤ length s → reads book tag n ≡ false → refuses (inArea Header (5 ∷ 6 ∷ n ∷ [])) ≡ readRc book s
         unfolding readRc
         rc-refused e f h other = rw (← e, ← f) (fails (reads book tag n) _ (gives n) other ∙ has-header _ h)
 
     -- the envelope
-    pub size-small : n ≡ sizeOf s → 10 ≤ length s → n < 10 → refuses (1 ∷ 2 ∷ 10 ∷ n ∷ []) ≡ framePrefix s
+    pub size-small : n ≡ sizeOf s → 10 ≤ length s → n < 10 → refuses (inArea Header (1 ∷ 2 ∷ 10 ∷ n ∷ [])) ≡ framePrefix s
     unfolding framePrefix
     size-small e h small = rw (← e) (fails (leb 10 n) _ _ (lt-leb 10 n small) ∙ has-header _ h)
 
-    pub size-large : n ≡ sizeOf s → 10 ≤ length s → 10 ≤ n → length s < n → refuses (1 ∷ length s ∷ (n - length s) ∷ 0 ∷ []) ≡ framePrefix s
+    pub size-large : n ≡ sizeOf s → 10 ≤ length s → 10 ≤ n → length s < n → refuses (inArea Header (1 ∷ length s ∷ (n - length s) ∷ 0 ∷ [])) ≡ framePrefix s
     unfolding framePrefix
     size-large e h ten large =
         rw (← e) (fails (leb n (length s)) _ _ (lt-leb n (length s) large) ∙ passes (leb 10 n) _ _ (le-leb 10 n ten) ∙ has-header _ h)
@@ -109,7 +110,7 @@ module _ (s : List ℕ) where
       (h, omega arith, omega arith)
 
   module _ (n : ℕ) (e : gives n ≡ framePrefix s) where
-    pub trailing : n < length s → refuses (2 ∷ n ∷ (length s - n) ∷ []) ≡ frameWhole s
+    pub trailing : n < length s → refuses (inArea Header (2 ∷ n ∷ (length s - n) ∷ [])) ≡ frameWhole s
     unfolding frameWhole
     trailing h = fails (leb (length s) n) _ (gives n) (lt-leb (length s) n h) ∙ goes-on (framePrefix s) _ e
 
@@ -117,7 +118,7 @@ module _ (s : List ℕ) where
     unfolding frameWhole
     whole-read h = passes (leb (length s) n) _ (gives n) (le-leb (length s) n h) ∙ goes-on (framePrefix s) _ e
 
-  pub whole-refused : {why : List ℕ} → refuses why ≡ framePrefix s → refuses why ≡ frameWhole s
+  pub whole-refused : {why : Why} → refuses why ≡ framePrefix s → refuses why ≡ frameWhole s
   unfolding frameWhole
   whole-refused e = stops (framePrefix s) _ e
 
@@ -126,7 +127,7 @@ module _ (s : List ℕ) where
   whole-fits e = prefix-fits (sym (then-gives (framePrefix s) _ (sym e) .1)) .0
 
   -- a setter that is refused, and one that goes by what a field's writing says
-  pub refused-set : {x : Said (List ℕ)} {why : List ℕ} → refuses why ≡ x → (refuses why ≡ done x) × (s ≡ after s x)
+  pub refused-set : {x : Said (List ℕ)} {why : Why} → refuses why ≡ x → (refuses why ≡ done x) × (s ≡ after s x)
   refused-set e = (ap done e, ap (after s) e)
 
   pub set-by : {x y : Said (List ℕ)} → x ≡ y → (done x ≡ done y) × (after s x ≡ after s y)
@@ -137,24 +138,24 @@ module _ (s : List ℕ) where
     unfolding setTag
     tag-set member = passes (isIn n tags) _ (writeField 2 0 n s) member ∙ has-header _ h
 
-    pub tag-not-set : isIn n tags ≡ false → refuses (3 ∷ 0 ∷ n ∷ []) ≡ setTag n s
+    pub tag-not-set : isIn n tags ≡ false → refuses (inArea Header (3 ∷ 0 ∷ n ∷ [])) ≡ setTag n s
     unfolding setTag
     tag-not-set other = fails (isIn n tags) _ (writeField 2 0 n s) other ∙ has-header _ h
 
     module _ (book : Rulebook) where
-      pub cc-set : {row : Row} → gives row ≡ rowFor (book .rows) n → writeField 4 6 n s ≡ setCc book n s
+      pub cc-set : {row : Row} → gives row ≡ within Header (rowFor (book .rows) n) → writeField 4 6 n s ≡ setCc book n s
       unfolding setCc
-      cc-set found = goes-on (rowFor (book .rows) n) _ found ∙ has-header _ h
+      cc-set found = goes-on (within Header (rowFor (book .rows) n)) _ found ∙ has-header _ h
 
-      pub cc-not-set : {why : List ℕ} → refuses why ≡ rowFor (book .rows) n → refuses why ≡ setCc book n s
+      pub cc-not-set : {why : Why} → refuses why ≡ within Header (rowFor (book .rows) n) → refuses why ≡ setCc book n s
       unfolding setCc
-      cc-not-set lacks = stops (rowFor (book .rows) n) _ lacks ∙ has-header _ h
+      cc-not-set lacks = stops (within Header (rowFor (book .rows) n)) _ lacks ∙ has-header _ h
 
       module _ (tag : ℕ) where
         pub rc-set : tag ≡ tagOf s → reads book tag n ≡ true → writeField 4 6 n s ≡ setRc book n s
         unfolding setRc
         rc-set f read = rw (← f) (passes (reads book tag n) _ (writeField 4 6 n s) read ∙ has-header _ h)
 
-        pub rc-not-set : tag ≡ tagOf s → reads book tag n ≡ false → refuses (5 ∷ 0 ∷ n ∷ []) ≡ setRc book n s
+        pub rc-not-set : tag ≡ tagOf s → reads book tag n ≡ false → refuses (inArea Header (5 ∷ 0 ∷ n ∷ [])) ≡ setRc book n s
         unfolding setRc
         rc-not-set f other = rw (← f) (fails (reads book tag n) _ (writeField 4 6 n s) other ∙ has-header _ h)

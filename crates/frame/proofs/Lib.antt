@@ -9,10 +9,12 @@ pub mod Laws
 pub mod Limits
 pub mod Never
 pub mod Readings
+pub mod Refused
 pub mod ResponseLaws
 pub mod RulesByValue
 pub mod Single
 pub mod Standing
 pub mod WalkLaws
 pub mod Walks
+pub mod Where
 pub mod Worked

@@ -10,9 +10,11 @@ use native.Mathlib.Omega.{arith}
 use borrow.Author.Tests.{le-leb, leb-true, leb-false}
 use lib.Dec.{leb}
 use lib.ListN.{length}
+use Rattle.base.specs.declared.error.Area.the-variants.{Authorization}
 use Rattle.base.specs.Bytes.{AreBytes}
 use Rattle.base.specs.Field.{readField}
-use Rattle.base.specs.Said.{Said, gives, refuses, needs, then}
+use Rattle.base.proofs.Checks.{within-gives}
+use Rattle.base.specs.Said.{inArea, within, Said, gives, refuses, needs, then}
 use Rattle.frame.specs.Rules.{unlimited}
 use Rattle.frame.specs.Walk.{readTpm2b, readSigned, readEntry, walk, behind}
 use Rattle.frame.proofs.EntryLaws.{field-sound}
@@ -20,7 +22,7 @@ use Rattle.frame.proofs.Walks.{field-there}
 
 -- a field above the limit is refused where its length stands
 abbrev pub TooLong : {A : Type 0} → ℕ → Said A → Type 0
-TooLong limit said = (place : ℕ) × (size : ℕ) × (limit < size) × (said ≡ refuses (8 ∷ place ∷ limit ∷ size ∷ []))
+TooLong limit said = (place : ℕ) × (size : ℕ) × (limit < size) × (said ≡ refuses (inArea Authorization (8 ∷ place ∷ limit ∷ size ∷ [])))
 
 module _ (limit other : ℕ) (looser : limit ≤ other) where
   abbrev pub Alike : {A : Type 0} → Said A → Said A → Type 0
@@ -41,10 +43,10 @@ module _ (limit other : ℕ) (looser : limit ≤ other) where
 
   tpm2b-alike : (s : List ℕ) (place : ℕ) → Alike (readTpm2b limit s place) (readTpm2b other s place)
   unfolding readTpm2b
-  tpm2b-alike s place = then-alike (readField 2 place s) _ _ λ size. by size (leb size limit) refl _
+  tpm2b-alike s place = then-alike (within Authorization (readField 2 place s)) _ _ λ size. by size (leb size limit) refl _
     where
       by : (size : ℕ) (b : Bool) → leb size limit ≡ b → (rest : Said ℕ)
-          → Alike (needs b (8 ∷ place ∷ limit ∷ size ∷ []) rest) (needs (leb size other) (8 ∷ place ∷ other ∷ size ∷ []) rest)
+          → Alike (needs b (inArea Authorization (8 ∷ place ∷ limit ∷ size ∷ [])) rest) (needs (leb size other) (inArea Authorization (8 ∷ place ∷ other ∷ size ∷ [])) rest)
       by size true e rest = let few = leb-true size limit e in inl (rw (le-leb size other (omega arith)) refl)
       by size false e rest = inr (place, size, leb-false size limit e, refl)
 
@@ -52,13 +54,13 @@ module _ (limit other : ℕ) (looser : limit ≤ other) where
   unfolding readSigned
   signed-alike handle s place =
       both-alike (readTpm2b limit s place) (readTpm2b other s place) _ _ (tpm2b-alike s place) λ nonce.
-      then-alike (readField 1 (place + 2 + nonce) s) _ _ λ attributes.
+      then-alike (within Authorization (readField 1 (place + 2 + nonce) s)) _ _ λ attributes.
       both-alike (readTpm2b limit s (place + 2 + nonce + 1)) (readTpm2b other s (place + 2 + nonce + 1)) _ _
       (tpm2b-alike s (place + 2 + nonce + 1)) λ hmac. inl refl
 
   entry-alike : (width : ℕ) (s : List ℕ) (place : ℕ) → Alike (readEntry limit width s place) (readEntry other width s place)
   unfolding readEntry
-  entry-alike width s place = then-alike (readField width place s) _ _ λ handle. signed-alike handle s (place + width)
+  entry-alike width s place = then-alike (within Authorization (readField width place s)) _ _ λ handle. signed-alike handle s (place + width)
 
   pub walk-alike : (k width : ℕ) (s : List ℕ) (place : ℕ) → Alike (walk limit k width s place) (walk other k width s place)
   unfolding walk
@@ -81,23 +83,23 @@ module _ (other : ℕ) (looser : unlimited ≤ other) (s : List ℕ) (b : AreByt
   tpm2b-same : (place : ℕ) → readTpm2b unlimited s place ≡ readTpm2b other s place
   unfolding readTpm2b
   tpm2b-same place =
-      same-then (readField 2 place s) _ _ λ size read.
-      let there = field-there 2 place s (omega arith) (sym read) in
-      let small = field-sound 2 s place b (omega arith) read .1 in
+      same-then (within Authorization (readField 2 place s)) _ _ λ size read.
+      let there = field-there Authorization 2 place s (omega arith) (sym read) in
+      let small = field-sound 2 s place b (omega arith) (within-gives Authorization (readField 2 place s) read) .1 in
       rw (le-leb size unlimited (omega arith), le-leb size other (omega arith)) refl
 
   signed-same : (handle place : ℕ) → readSigned unlimited handle s place ≡ readSigned other handle s place
   unfolding readSigned
   signed-same handle place =
       both-same (readTpm2b unlimited s place) (readTpm2b other s place) _ _ (tpm2b-same place) λ nonce.
-      both-same (readField 1 (place + 2 + nonce) s) (readField 1 (place + 2 + nonce) s) _ _ refl λ attributes.
+      both-same (within Authorization (readField 1 (place + 2 + nonce) s)) (within Authorization (readField 1 (place + 2 + nonce) s)) _ _ refl λ attributes.
       both-same (readTpm2b unlimited s (place + 2 + nonce + 1)) (readTpm2b other s (place + 2 + nonce + 1)) _ _
       (tpm2b-same (place + 2 + nonce + 1)) λ hmac. refl
 
   entry-same : (width place : ℕ) → readEntry unlimited width s place ≡ readEntry other width s place
   unfolding readEntry
   entry-same width place =
-      both-same (readField width place s) (readField width place s) _ _ refl λ handle. signed-same handle (place + width)
+      both-same (within Authorization (readField width place s)) (within Authorization (readField width place s)) _ _ refl λ handle. signed-same handle (place + width)
 
   pub walk-unlimited : (k width place : ℕ) → walk unlimited k width s place ≡ walk other k width s place
   unfolding walk

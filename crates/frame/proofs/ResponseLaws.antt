@@ -11,11 +11,12 @@ use native.Mathlib.Omega.{arith}
 use borrow.Author.Tests.{le-leb, leb-true, eqb-true}
 use lib.Dec.{eqb, leb}
 use lib.ListN.{length, drop, length-append}
+use Rattle.base.specs.declared.error.Area.the-variants.{Header, Parameters}
 use Rattle.base.specs.Bytes.{AreBytes, bytes}
 use Rattle.base.specs.Parts.{heldAt}
 use Rattle.base.specs.Said.{gives}
 use Rattle.base.proofs.Bytes.{are-bytes-take, are-bytes-drop}
-use Rattle.base.proofs.Checks.{needs-gives, then-gives, cond-gives, gives-injective}
+use Rattle.base.proofs.Checks.{needs-gives, then-gives, then-within, cond-gives, gives-injective}
 use Rattle.base.proofs.Places.{at-by}
 use Rattle.table.specs.Table.{rowFor}
 use Rattle.table.specs.declared.row.Row.{Row}
@@ -79,7 +80,7 @@ bare-layout book f e = rw (erring book f (e .either-error) .tag-unsized, e .no-h
 -- what is judged of success, and its areas
 record Succeeded (responses : ℕ) (s : List ℕ) (areas : Areas) : Type 0 where
   room : 10 + 4 * responses ≤ length s
-  sized : sizedArea (eqb (tagOf s) sessions) (length s) s (10 + 4 * responses) ≡ gives areas
+  sized : sizedArea Parameters (eqb (tagOf s) sessions) (length s) s (10 + 4 * responses) ≡ gives areas
 
 success-taken : (responses : ℕ) (s : List ℕ) {areas : Areas} → 10 ≤ length s → successAreas responses s ≡ gives areas → Succeeded responses s areas
 unfolding successAreas
@@ -88,7 +89,7 @@ success-taken responses s ten e =
     let handles = handles-sound s responses ten (handled .1) in
     record {
       room = handles .1;
-      sized = ap (sizedArea (eqb (tagOf s) sessions) (length s) s) (sym (handles .0)) ∙ handled .2;
+      sized = ap (sizedArea Parameters (eqb (tagOf s) sessions) (length s) s) (sym (handles .0)) ∙ handled .2;
     }
 
 success-passes : (responses : ℕ) (s : List ℕ) {areas : Areas} → Succeeded responses s areas → successAreas responses s ≡ gives areas
@@ -133,7 +134,7 @@ module _ (book : Rulebook) (cc : ℕ) where
       let areas : Areas = read .0 in
       let walked = then-gives (walk (book .longest) 3 0 s (areas .to)) _ (read .2) in
       let cast = then-gives (castResponse book s) _ (read .1) in
-      let found = then-gives (rowFor (book .rows) cc) _ (cast .2) in
+      let found = then-within Header (rowFor (book .rows) cc) _ (cast .2) in
       let whole = then-gives (frameWhole s) _ (cast .1) in
       let tagged = then-gives (readResponseTag book s) _ (whole .2) in
       let header = needs-gives (leb 10 (length s)) _ _ (tagged .2) in
@@ -213,16 +214,16 @@ module _ (book : Rulebook) (cc : ℕ) where
         let h : ℕ = 10 + 4 * t .row .responses in
         let from : ℕ = d .areas .from in
         let to : ℕ = d .areas .to in
-        let order = sized-order (eqb (tagOf s) sessions) (length s) h s (taken .room) (le-refl (length s)) (taken .sized) in
+        let order = sized-order Parameters (eqb (tagOf s) sessions) (length s) h s (taken .room) (le-refl (length s)) (taken .sized) in
         let walked = walk-sound (book .longest) 3 0 s to p (order .3) (t .walked) in
         let handles = at-between s 10 (d .areas .handles) (omega arith) (omega arith) in
         let sized = at-between s from to (order .2) (order .3) in
         let none : eqb (tagOf s) sessions ≡ false → entriesIn s (d .entries) ≡ [] =
         λ plainly.
-        let ends = plain-places (length s) h s (rw plainly at (taken .sized)) in
+        let ends = plain-places Parameters (length s) h s (rw plainly at (taken .sized)) in
         ap (entriesIn s) (gives-injective (sym (t .walked) ∙ walk-end (book .longest) 3 0 s to (omega arith))) in
         let again : layoutResponse (parts s d) ≡ s =
-        frame-again (length s) h s p (t .size-is) (taken .sized) (record {
+        frame-again Parameters (length s) h s p (t .size-is) (taken .sized) (record {
           handles-at = handles .0;
           handles-end = handles .1;
           sized-at = sized .0;
@@ -263,7 +264,7 @@ module _ (book : Rulebook) (cc : ℕ) where
         → d .areas .to ≤ length s
     within (inl e) =
         let taken = success-taken (t .row .responses) s (t .ten) (e .1) in
-        sized-order (eqb (tagOf s) sessions) (length s) (10 + 4 * t .row .responses) s (taken .room) (le-refl (length s)) (taken .sized) .3
+        sized-order Parameters (eqb (tagOf s) sessions) (length s) (10 + 4 * t .row .responses) s (taken .room) (le-refl (length s)) (taken .sized) .3
     within (inr e) =
         let to : d .areas .to ≡ 10 = ap (λ (a : Areas). a .to) (sym (error-taken book s (e .1) .2)) in
         let ten = t .ten in
@@ -318,7 +319,7 @@ module _ (book : Rulebook) (cc : ℕ) where
         (framed : Framed s (f .tag) (f .code) (layoutBody (f .tag) (f .handles) (f .parameters) (layoutEntries 0 (f .entries)))) where
       -- from where the parts stand to the division
       with-areas : (areas : Areas) → Holds s areas (f .handles) (f .parameters) (layoutEntries 0 (f .entries))
-          → sizedArea (eqb (f .tag) sessions) (length s) s (10 + 4 * row .responses) ≡ gives areas
+          → sizedArea Parameters (eqb (f .tag) sessions) (length s) s (10 + 4 * row .responses) ≡ gives areas
           → (d : Division) × (readResponse book cc s ≡ gives d) × (parts s d ≡ f)
       with-areas areas held sized =
           let tag : tagOf s ≡ f .tag = framed .tag-is in
@@ -361,7 +362,7 @@ module _ (book : Rulebook) (cc : ℕ) where
           let entries : List ℕ = layoutEntries 0 (f .entries) in
           let count : 10 + length (f .handles) ≡ 10 + 4 * row .responses = ap (λ (n : ℕ). 10 + n) (w .handle-count) in
           let sized =
-          sized-complete (eqb (f .tag) sessions) (length s) (10 + 4 * row .responses) s (f .handles) (f .parameters) entries
+          sized-complete Parameters (eqb (f .tag) sessions) (length s) (10 + 4 * row .responses) s (f .handles) (f .parameters) entries
           small count plain-end (framed .body-at) (framed .body-long) in
           with-areas (sized .0) (sized .2) (sized .1)
 

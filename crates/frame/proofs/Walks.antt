@@ -9,10 +9,12 @@ use native.Mathlib.Numerals.{towards-suc}
 use borrow.Author.Tests.{le-leb, lt-leb, leb-true}
 use lib.Dec.{leb}
 use lib.ListN.{length, getD, length-append}
+use Rattle.base.specs.declared.error.Area.{Area}
+use Rattle.base.specs.declared.error.Area.the-variants.{Authorization}
 use Rattle.base.specs.Bytes.{number}
 use Rattle.base.specs.Field.{readField}
-use Rattle.base.specs.Said.{Said, gives, refuses, needs, then, done}
-use Rattle.base.proofs.Checks.{passes, fails, goes-on, stops, needs-gives, cond-gives, then-gives, done-gives, gives-injective, refuses-injective, gives≢refuses}
+use Rattle.base.specs.Said.{Why, inArea, Said, gives, refuses, needs, then, within, done}
+use Rattle.base.proofs.Checks.{passes, fails, goes-on, stops, needs-gives, cond-gives, then-gives, then-within, within-gives, done-gives, gives-injective, refuses-injective, gives≢refuses}
 use Rattle.base.proofs.Widths.{read-short, read-whole}
 use Rattle.frame.specs.declared.session.Session.{Session}
 use Rattle.frame.specs.declared.session.Entries.{Entries}
@@ -23,7 +25,7 @@ use Rattle.frame.proofs.WalkLaws.{walk-end, walk-few}
 
 -- what is told of a step that gives something, and no more: the step refused where that does, and gave something where that does
 module _ {A B : Type 0} (f : A → B) where
-  pub step-refused : (x : Said A) {why : List ℕ} → refuses why ≡ then x (λ a. gives (f a)) → refuses why ≡ x
+  pub step-refused : (x : Said A) {why : Why} → refuses why ≡ then x (λ a. gives (f a)) → refuses why ≡ x
   step-refused (gives a) e = absurd (gives≢refuses (sym e))
   step-refused (refuses other) e = ap refuses (refuses-injective e)
 
@@ -32,25 +34,25 @@ module _ {A B : Type 0} (f : A → B) where
   step-given (refuses why) e = absurd (gives≢refuses e)
 
 -- a field that was read stands within the bytes
-pub field-there : (w place : ℕ) (s : List ℕ) {n : ℕ} → 0 < w → gives n ≡ readField w place s → place + w ≤ length s
-field-there w place s h read =
-    let there = leb-true w (length s - place) (needs-gives (leb w (length s - place)) _ _ (sym read) .0) in
+pub field-there : (area : Area) (w place : ℕ) (s : List ℕ) {n : ℕ} → 0 < w → gives n ≡ within area (readField w place s) → place + w ≤ length s
+field-there area w place s h read =
+    let there = leb-true w (length s - place) (needs-gives (leb w (length s - place)) _ _ (within-gives area (readField w place s) (sym read)) .0) in
     omega arith
 
 -- a field of one byte is that byte
-byte-read : (place : ℕ) (s : List ℕ) → place < length s → gives (getD s place 0) ≡ readField 1 place s
+byte-read : (place : ℕ) (s : List ℕ) → place < length s → gives (getD s place 0) ≡ within Authorization (readField 1 place s)
 unfolding number
 byte-read place s h =
     let same : getD s place 0 ≡ getD s place 0 * 1 + 0 = omega arith in
-    ap gives same ∙ read-whole 1 place s (omega arith)
+    ap gives same ∙ read-whole 1 place s Authorization (omega arith)
 
 -- a field of two bytes, and one of four
-two-bytes : (s : List ℕ) (place : ℕ) → place + 2 ≤ length s → {n : ℕ} → n ≡ number (getD s place 0 ∷ getD s (place + 1) 0 ∷ []) → gives n ≡ readField 2 place s
-two-bytes s place h e = ap gives e ∙ simp towards-suc (read-whole 2 place s (omega arith))
+two-bytes : (s : List ℕ) (place : ℕ) → place + 2 ≤ length s → {n : ℕ} → n ≡ number (getD s place 0 ∷ getD s (place + 1) 0 ∷ []) → gives n ≡ within Authorization (readField 2 place s)
+two-bytes s place h e = ap gives e ∙ simp towards-suc (read-whole 2 place s Authorization (omega arith))
 
-pub four-bytes : (s : List ℕ) (place : ℕ) → place + 4 ≤ length s
-    → {n : ℕ} → n ≡ number (getD s place 0 ∷ getD s (place + 1) 0 ∷ getD s (place + 2) 0 ∷ getD s (place + 3) 0 ∷ []) → gives n ≡ readField 4 place s
-four-bytes s place h e = ap gives e ∙ simp towards-suc (read-whole 4 place s (omega arith))
+pub four-bytes : (area : Area) (s : List ℕ) (place : ℕ) → place + 4 ≤ length s
+    → {n : ℕ} → n ≡ number (getD s place 0 ∷ getD s (place + 1) 0 ∷ getD s (place + 2) 0 ∷ getD s (place + 3) 0 ∷ []) → gives n ≡ within area (readField 4 place s)
+four-bytes area s place h e = ap gives e ∙ simp towards-suc (read-whole 4 place s area (omega arith))
 
 -- ---- a TPM2B
 
@@ -60,25 +62,25 @@ module _ (limit : ℕ) (s : List ℕ) (place : ℕ) where
       → (said ≡ readTpm2b limit s place) × ((size : ℕ) → said ≡ gives size → size ≤ limit)
   goes-by e = (e, λ size is. tpm2b-fits limit s place (sym e ∙ is) .2)
 
-  pub tpm2b-refused : {why : List ℕ} → refuses why ≡ readField 2 place s → refuses why ≡ readTpm2b limit s place
+  pub tpm2b-refused : {why : Why} → refuses why ≡ within Authorization (readField 2 place s) → refuses why ≡ readTpm2b limit s place
   unfolding readTpm2b
-  tpm2b-refused read = stops (readField 2 place s) _ read
+  tpm2b-refused read = stops (within Authorization (readField 2 place s)) _ read
 
-  module _ {n : ℕ} (read : gives n ≡ readField 2 place s) where
-    pub tpm2b-long : limit < n → refuses (8 ∷ place ∷ limit ∷ n ∷ []) ≡ readTpm2b limit s place
+  module _ {n : ℕ} (read : gives n ≡ within Authorization (readField 2 place s)) where
+    pub tpm2b-long : limit < n → refuses (inArea Authorization (8 ∷ place ∷ limit ∷ n ∷ [])) ≡ readTpm2b limit s place
     unfolding readTpm2b
-    tpm2b-long long = fails (leb n limit) _ _ (lt-leb n limit long) ∙ goes-on (readField 2 place s) _ read
+    tpm2b-long long = fails (leb n limit) _ _ (lt-leb n limit long) ∙ goes-on (within Authorization (readField 2 place s)) _ read
 
     module _ (few : n ≤ limit) where
       -- the size is within the limit, and what is left is looked at
       abbrev left : Said ℕ
-      left = needs (leb (2 + n) (length s - place)) (1 ∷ place ∷ (2 + n) ∷ (length s - place) ∷ []) (gives n)
+      left = needs (leb (2 + n) (length s - place)) (inArea Authorization (1 ∷ place ∷ (2 + n) ∷ (length s - place) ∷ [])) (gives n)
 
       tpm2b-within : left ≡ readTpm2b limit s place
       unfolding readTpm2b
-      tpm2b-within = passes (leb n limit) _ left (le-leb n limit few) ∙ goes-on (readField 2 place s) _ read
+      tpm2b-within = passes (leb n limit) _ left (le-leb n limit few) ∙ goes-on (within Authorization (readField 2 place s)) _ read
 
-      pub tpm2b-short : length s - place < 2 + n → refuses (1 ∷ place ∷ (2 + n) ∷ (length s - place) ∷ []) ≡ readTpm2b limit s place
+      pub tpm2b-short : length s - place < 2 + n → refuses (inArea Authorization (1 ∷ place ∷ (2 + n) ∷ (length s - place) ∷ [])) ≡ readTpm2b limit s place
       tpm2b-short short = fails (leb (2 + n) (length s - place)) _ (gives n) (lt-leb (2 + n) (length s - place) short) ∙ tpm2b-within
 
       pub tpm2b-read : 2 + n ≤ length s - place → gives n ≡ readTpm2b limit s place
@@ -87,23 +89,23 @@ module _ (limit : ℕ) (s : List ℕ) (place : ℕ) where
 -- ---- an entry
 
 module _ (limit handle : ℕ) (s : List ℕ) (place : ℕ) where
-  pub nonce-refused : {why : List ℕ} → refuses why ≡ readTpm2b limit s place → refuses why ≡ readSigned limit handle s place
+  pub nonce-refused : {why : Why} → refuses why ≡ readTpm2b limit s place → refuses why ≡ readSigned limit handle s place
   unfolding readSigned
   nonce-refused read = stops (readTpm2b limit s place) _ read
 
   module _ {nonce : ℕ} (read : gives nonce ≡ readTpm2b limit s place) where
-    pub attributes-refused : length s ≤ place + 2 + nonce → refuses (1 ∷ (place + 2 + nonce) ∷ 1 ∷ 0 ∷ []) ≡ readSigned limit handle s place
+    pub attributes-refused : length s ≤ place + 2 + nonce → refuses (inArea Authorization (1 ∷ (place + 2 + nonce) ∷ 1 ∷ 0 ∷ [])) ≡ readSigned limit handle s place
     unfolding readSigned
     attributes-refused end =
-        stops (readField 1 (place + 2 + nonce) s) _ (read-short 1 (place + 2 + nonce) s 0 (omega arith) (omega arith))
+        stops (within Authorization (readField 1 (place + 2 + nonce) s)) _ (read-short 1 (place + 2 + nonce) s Authorization 0 (omega arith) (omega arith))
         ∙ goes-on (readTpm2b limit s place) _ read
 
     module _ (inside : place + 2 + nonce < length s) where
-      pub hmac-refused : {why : List ℕ} → refuses why ≡ readTpm2b limit s (place + 2 + nonce + 1) → refuses why ≡ readSigned limit handle s place
+      pub hmac-refused : {why : Why} → refuses why ≡ readTpm2b limit s (place + 2 + nonce + 1) → refuses why ≡ readSigned limit handle s place
       unfolding readSigned
       hmac-refused last =
           stops (readTpm2b limit s (place + 2 + nonce + 1)) _ last
-          ∙ goes-on (readField 1 (place + 2 + nonce) s) _ (byte-read (place + 2 + nonce) s inside)
+          ∙ goes-on (within Authorization (readField 1 (place + 2 + nonce) s)) _ (byte-read (place + 2 + nonce) s inside)
           ∙ goes-on (readTpm2b limit s place) _ read
 
       pub signed-read : {hmac : ℕ} → gives hmac ≡ readTpm2b limit s (place + 2 + nonce + 1)
@@ -118,7 +120,7 @@ module _ (limit handle : ℕ) (s : List ℕ) (place : ℕ) where
       signed-read {hmac} last =
           let same : place + 2 + nonce + 3 ≡ place + 2 + nonce + 1 + 2 = omega arith in
           rw same (goes-on (readTpm2b limit s (place + 2 + nonce + 1)) _ last
-          ∙ goes-on (readField 1 (place + 2 + nonce) s) _ (byte-read (place + 2 + nonce) s inside)
+          ∙ goes-on (within Authorization (readField 1 (place + 2 + nonce) s)) _ (byte-read (place + 2 + nonce) s inside)
           ∙ goes-on (readTpm2b limit s place) _ read)
 
 -- the place behind an entry does not depend on its handle
@@ -130,7 +132,7 @@ pub handle-aside : (limit handle : ℕ) (s : List ℕ) (place : ℕ) → behindO
 unfolding readSigned
 handle-aside limit handle s place =
     alike (readTpm2b limit s place) _ _ λ nonce.
-    alike (readField 1 (place + 2 + nonce) s) _ _ λ attributes.
+    alike (within Authorization (readField 1 (place + 2 + nonce) s)) _ _ λ attributes.
     alike (readTpm2b limit s (place + 2 + nonce + 1)) _ _ λ hmac. refl
 
 -- an entry that is there, byte by byte
@@ -146,7 +148,7 @@ module _ (limit handle : ℕ) (s : List ℕ) (place : ℕ) (there : done (readSi
   sized =
       let e = done-gives (readSigned limit handle s place) (sym there) in
       let n = then-gives (readTpm2b limit s place) _ (sym (e .1)) in
-      let a = then-gives (readField 1 (place + 2 + n .0) s) _ (n .2) in
+      let a = then-within Authorization (readField 1 (place + 2 + n .0) s) _ (n .2) in
       let m = then-gives (readTpm2b limit s (place + 2 + n .0 + 1)) _ (a .2) in
       record { nonce = n .0; hmac = m .0; nonce-read = n .1; hmac-read = m .1 }
 
@@ -155,7 +157,7 @@ module _ (limit handle : ℕ) (s : List ℕ) (place : ℕ) (there : done (readSi
 
   module _ {nonce : ℕ} (is : nonce ≡ number (getD s place 0 ∷ getD s (place + 1) 0 ∷ [])) where
     nonce-is : nonce ≡ sized .nonce
-    nonce-is = gives-injective (two-bytes s place nonce-there is ∙ tpm2b-fits limit s place (sized .nonce-read) .0)
+    nonce-is = gives-injective (two-bytes s place nonce-there is ∙ ap (within Authorization) (tpm2b-fits limit s place (sized .nonce-read) .0))
 
     pub hmac-there : place + 2 + nonce + 3 ≤ length s
     hmac-there =
@@ -175,31 +177,31 @@ module _ (limit handle : ℕ) (s : List ℕ) (place : ℕ) (there : done (readSi
         let inside = hmac-there in
         let next : place + 2 + nonce + 2 ≡ place + 2 + nonce + 1 + 1 = omega arith in
         let read : readTpm2b limit s (place + 2 + nonce + 1) ≡ gives (sized .hmac) = rw nonce-is (sized .hmac-read) in
-        let hmac-is : hmac ≡ sized .hmac = gives-injective (two-bytes s (place + 2 + nonce + 1) (omega arith) (rw next at last) ∙ tpm2b-fits limit s (place + 2 + nonce + 1) read .0) in
+        let hmac-is : hmac ≡ sized .hmac = gives-injective (two-bytes s (place + 2 + nonce + 1) (omega arith) (rw next at last) ∙ ap (within Authorization) (tpm2b-fits limit s (place + 2 + nonce + 1) read .0)) in
         signed-read limit handle s place (ap gives nonce-is ∙ sym (sized .nonce-read)) (omega arith) (ap gives hmac-is ∙ sym read)
 
 module _ (limit width : ℕ) (s : List ℕ) (place : ℕ) where
-  pub handle-refused : {why : List ℕ} → refuses why ≡ readField width place s → refuses why ≡ readEntry limit width s place
+  pub handle-refused : {why : Why} → refuses why ≡ within Authorization (readField width place s) → refuses why ≡ readEntry limit width s place
   unfolding readEntry
-  handle-refused read = stops (readField width place s) _ read
+  handle-refused read = stops (within Authorization (readField width place s)) _ read
 
-  pub handle-read : {handle : ℕ} → gives handle ≡ readField width place s → readSigned limit handle s (place + width) ≡ readEntry limit width s place
+  pub handle-read : {handle : ℕ} → gives handle ≡ within Authorization (readField width place s) → readSigned limit handle s (place + width) ≡ readEntry limit width s place
   unfolding readEntry
-  handle-read read = goes-on (readField width place s) _ read
+  handle-read read = goes-on (within Authorization (readField width place s)) _ read
 
   -- of an entry that is there, the handle is
   pub handle-there : 0 < width → done (readEntry limit width s place) ≡ gives tt → place + width ≤ length s
   unfolding readEntry
   handle-there some there =
       let e = done-gives (readEntry limit width s place) (sym there) in
-      field-there width place s some (sym (then-gives (readField width place s) _ (sym (e .1)) .1))
+      field-there Authorization width place s some (sym (then-gives (within Authorization (readField width place s)) _ (sym (e .1)) .1))
 
 -- an entry with no handle before it
 pub no-handle : (limit : ℕ) (s : List ℕ) (place : ℕ) → readSigned limit 0 s place ≡ readEntry limit 0 s place
 unfolding number
 no-handle limit s place =
     let here : place ≡ place + 0 = omega arith in
-    ap (readSigned limit 0 s) here ∙ handle-read limit 0 s place (read-whole 0 place s (omega arith))
+    ap (readSigned limit 0 s) here ∙ handle-read limit 0 s place (read-whole 0 place s Authorization (omega arith))
 
 -- ---- one entry more, by value
 
@@ -229,12 +231,12 @@ module _ {found : Entries} {e : Session} where
 -- ---- the walk
 
 module _ (limit width : ℕ) (s : List ℕ) (place : ℕ) (inside : place < length s) where
-  walk-full : refuses (6 ∷ place ∷ 3 ∷ 4 ∷ []) ≡ walk limit zero width s place
+  walk-full : refuses (inArea Authorization (6 ∷ place ∷ 3 ∷ 4 ∷ [])) ≡ walk limit zero width s place
   unfolding walk
   walk-full = fails (leb (length s) place) _ (gives []) (lt-leb (length s) place inside)
 
   module _ (k : ℕ) where
-    walk-refused : {why : List ℕ} → refuses why ≡ readEntry limit width s place → refuses why ≡ walk limit (suc k) width s place
+    walk-refused : {why : Why} → refuses why ≡ readEntry limit width s place → refuses why ≡ walk limit (suc k) width s place
     unfolding walk
     walk-refused read = simp (lt-leb (length s) place inside) (stops (readEntry limit width s place) _ read)
 
@@ -257,14 +259,14 @@ module _ {limit width : ℕ} {s : List ℕ} {place count at : ℕ} (f : Counted 
   one-to-come room = let three = f .of-three in omega arith
 
   -- what the rest refuses, the walk does
-  rest-refused : {why : List ℕ} → refuses why ≡ walk limit (f .more) width s at → refuses why ≡ done (walk limit 3 width s place)
+  rest-refused : {why : Why} → refuses why ≡ walk limit (f .more) width s at → refuses why ≡ done (walk limit 3 width s place)
   rest-refused r = ap done r ∙ sym (f .rest)
 
   pub all-counted : length s ≤ at → gives tt ≡ done (walk limit 3 width s place)
   all-counted end = sym (f .rest ∙ ap done (walk-end limit (f .more) width s at end))
 
   module _ (inside : at < length s) where
-    pub one-too-many : count ≡ 3 → refuses (6 ∷ at ∷ 3 ∷ 4 ∷ []) ≡ done (walk limit 3 width s place)
+    pub one-too-many : count ≡ 3 → refuses (inArea Authorization (6 ∷ at ∷ 3 ∷ 4 ∷ [])) ≡ done (walk limit 3 width s place)
     one-too-many full =
         let three = f .of-three in
         let none : f .more ≡ 0 = omega arith in
@@ -277,7 +279,7 @@ module _ {limit width : ℕ} {s : List ℕ} {place count at : ℕ} (f : Counted 
           let three = f .of-three in
           omega arith
 
-      pub entry-refused : {why : List ℕ} → refuses why ≡ behindOf (readEntry limit width s at) → refuses why ≡ done (walk limit 3 width s place)
+      pub entry-refused : {why : Why} → refuses why ≡ behindOf (readEntry limit width s at) → refuses why ≡ done (walk limit 3 width s place)
       entry-refused read =
           rest-refused (rw one-more (walk-refused limit width s at inside (f .more - 1) (step-refused behind (readEntry limit width s at) read)))
 

@@ -5,9 +5,10 @@ use mathlib.Core.Path.{_≡_, refl}
 use mathlib.Core.List.{List, [], _∷_, _++_}
 use Prim.Native.Nat.{ℕ, _-_}
 use lib.ListN.{replicate}
+use Rattle.base.specs.declared.error.Area.the-variants.{Header, Handles, Authorization, Parameters}
 use Rattle.base.specs.Bytes.{number}
-use Rattle.base.specs.Said.{Said, gives, refuses, then, done}
-use Rattle.rc.specs.Code.{readCode, readFmt0, baseOf, kindNumber, kindOf, indexOf}
+use Rattle.base.specs.Said.{Why, inArea, Said, gives, refuses, then, done}
+use Rattle.rc.specs.Code.{readCode, readFmt1, readFmt0, readIndex, baseOf, kindNumber, kindOf, indexOf}
 use Rattle.rc.specs.Known.{isKnown, knownCodes}
 use Rattle.table.specs.Dispatch.{dispatch}
 use Rattle.table.specs.Tags.{tags}
@@ -80,7 +81,7 @@ C size =
 
 -- ---- a fourth entry is refused before it is read: 01's row of B with three entries and a byte, which has no star
 
-pub fourth-entry : answer (validate-command (B 0x2e 28 (entry ++ (entry ++ (entry ++ (0 ∷ [])))))) ≡ refuses (6 ∷ 45 ∷ 3 ∷ 4 ∷ [])
+pub fourth-entry : answer (validate-command (B 0x2e 28 (entry ++ (entry ++ (entry ++ (0 ∷ [])))))) ≡ refuses (inArea Authorization (6 ∷ 45 ∷ 3 ∷ 4 ∷ []))
 unfolding number dispatch tags tagOf sizeOf codeOf readCc framePrefix frameWhole readCommandTag handleArea sizedArea commandHandles commandAreas judgeCommand castCommand readCommand readTpm2b readSigned readEntry walk
 fourth-entry = refl
 
@@ -104,14 +105,14 @@ pub bad-tag-rows : judgedBy rust 0x15e (underRspCommand 10 0 0x1e [])
     ∷ judgedBy standard 0x197 (underRspCommand 10 0 0x1e [])
     ∷ judgedBy standard 0x197 (underRspCommand 11 0 0x1e (0 ∷ []))
     ∷ []
-    ≡ (refuses (3 ∷ 0 ∷ 196 ∷ []) ∷ refuses (3 ∷ 0 ∷ 196 ∷ []) ∷ [])
+    ≡ (refuses (inArea Header (3 ∷ 0 ∷ 196 ∷ [])) ∷ refuses (inArea Header (3 ∷ 0 ∷ 196 ∷ [])) ∷ [])
     ∷ (gives tt ∷ gives tt ∷ [])
-    ∷ (refuses (5 ∷ 6 ∷ 0x101 ∷ []) ∷ refuses (5 ∷ 6 ∷ 0x101 ∷ []) ∷ [])
-    ∷ (refuses (5 ∷ 6 ∷ 0 ∷ []) ∷ refuses (5 ∷ 6 ∷ 0 ∷ []) ∷ [])
-    ∷ (refuses (5 ∷ 6 ∷ 48 ∷ []) ∷ refuses (5 ∷ 6 ∷ 48 ∷ []) ∷ [])
-    ∷ (gives tt ∷ refuses (2 ∷ 10 ∷ 1 ∷ []) ∷ [])
-    ∷ (gives tt ∷ refuses (4 ∷ 0 ∷ 0x197 ∷ []) ∷ [])
-    ∷ (gives tt ∷ refuses (4 ∷ 0 ∷ 0x197 ∷ []) ∷ [])
+    ∷ (refuses (inArea Header (5 ∷ 6 ∷ 0x101 ∷ [])) ∷ refuses (inArea Header (5 ∷ 6 ∷ 0x101 ∷ [])) ∷ [])
+    ∷ (refuses (inArea Header (5 ∷ 6 ∷ 0 ∷ [])) ∷ refuses (inArea Header (5 ∷ 6 ∷ 0 ∷ [])) ∷ [])
+    ∷ (refuses (inArea Header (5 ∷ 6 ∷ 48 ∷ [])) ∷ refuses (inArea Header (5 ∷ 6 ∷ 48 ∷ [])) ∷ [])
+    ∷ (gives tt ∷ refuses (inArea Header (2 ∷ 10 ∷ 1 ∷ [])) ∷ [])
+    ∷ (gives tt ∷ refuses (inArea Header (4 ∷ 0 ∷ 0x197 ∷ [])) ∷ [])
+    ∷ (gives tt ∷ refuses (inArea Header (4 ∷ 0 ∷ 0x197 ∷ [])) ∷ [])
     ∷ []
 unfolding number dispatch tagOf sizeOf codeOf framePrefix frameWhole readResponseTag readRc judgeResponse castResponse errorAreas responseAreas readResponse walk
 bad-tag-rows = refl
@@ -134,8 +135,13 @@ responseWith size signed =
 abbrev commandBoth : List ℕ → List (Said (Unit {0}))
 commandBoth s = done (readCommand rust s) ∷ done (readCommand standard s) ∷ []
 
-abbrev responseBoth : List ℕ → List (Said (Unit {0}))
-responseBoth s = done (readResponse rust 0x17b s) ∷ done (readResponse standard 0x17b s) ∷ []
+-- of a response to the command of a code
+abbrev responseTo : ℕ → List ℕ → List (Said (Unit {0}))
+responseTo cc s = done (readResponse rust cc s) ∷ done (readResponse standard cc s) ∷ []
+
+-- refused in both alike
+abbrev twice : Why → List (Said (Unit {0}))
+twice why = refuses why ∷ refuses why ∷ []
 
 -- a nonce of 64 bytes, of 65, an HMAC of 64, of 65; a nonce that says 65 and has one; half a length; and of a response a nonce and an HMAC of 65
 pub limit-rows : commandBoth (commandWith 91 (field 64 64 ++ (0 ∷ field 0 0)))
@@ -144,17 +150,76 @@ pub limit-rows : commandBoth (commandWith 91 (field 64 64 ++ (0 ∷ field 0 0)))
     ∷ commandBoth (commandWith 92 (field 0 0 ++ (0 ∷ field 65 65)))
     ∷ commandBoth (commandWith 25 (field 65 1))
     ∷ commandBoth (commandWith 23 (65 ∷ []))
-    ∷ responseBoth (responseWith 88 (field 65 65 ++ (0 ∷ field 0 0)))
-    ∷ responseBoth (responseWith 88 (field 0 0 ++ (0 ∷ field 65 65)))
+    ∷ responseTo 0x17b (responseWith 88 (field 65 65 ++ (0 ∷ field 0 0)))
+    ∷ responseTo 0x17b (responseWith 88 (field 0 0 ++ (0 ∷ field 65 65)))
     ∷ []
     ≡ (gives tt ∷ gives tt ∷ [])
-    ∷ (gives tt ∷ refuses (8 ∷ 22 ∷ 64 ∷ 65 ∷ []) ∷ [])
+    ∷ (gives tt ∷ refuses (inArea Authorization (8 ∷ 22 ∷ 64 ∷ 65 ∷ [])) ∷ [])
     ∷ (gives tt ∷ gives tt ∷ [])
-    ∷ (gives tt ∷ refuses (8 ∷ 25 ∷ 64 ∷ 65 ∷ []) ∷ [])
-    ∷ (refuses (1 ∷ 22 ∷ 67 ∷ 3 ∷ []) ∷ refuses (8 ∷ 22 ∷ 64 ∷ 65 ∷ []) ∷ [])
-    ∷ (refuses (1 ∷ 22 ∷ 2 ∷ 1 ∷ []) ∷ refuses (1 ∷ 22 ∷ 2 ∷ 1 ∷ []) ∷ [])
-    ∷ (gives tt ∷ refuses (8 ∷ 18 ∷ 64 ∷ 65 ∷ []) ∷ [])
-    ∷ (gives tt ∷ refuses (8 ∷ 21 ∷ 64 ∷ 65 ∷ []) ∷ [])
+    ∷ (gives tt ∷ refuses (inArea Authorization (8 ∷ 25 ∷ 64 ∷ 65 ∷ [])) ∷ [])
+    ∷ (refuses (inArea Authorization (1 ∷ 22 ∷ 67 ∷ 3 ∷ [])) ∷ refuses (inArea Authorization (8 ∷ 22 ∷ 64 ∷ 65 ∷ [])) ∷ [])
+    ∷ (refuses (inArea Authorization (1 ∷ 22 ∷ 2 ∷ 1 ∷ [])) ∷ refuses (inArea Authorization (1 ∷ 22 ∷ 2 ∷ 1 ∷ [])) ∷ [])
+    ∷ (gives tt ∷ refuses (inArea Authorization (8 ∷ 18 ∷ 64 ∷ 65 ∷ [])) ∷ [])
+    ∷ (gives tt ∷ refuses (inArea Authorization (8 ∷ 21 ∷ 64 ∷ 65 ∷ [])) ∷ [])
     ∷ []
 unfolding number dispatch tags tagOf sizeOf codeOf readCc readRc framePrefix frameWhole readCommandTag readResponseTag handleArea sizedArea commandHandles commandAreas judgeCommand castCommand readCommand judgeResponse castResponse successAreas responseAreas readResponse readCode readFmt0 isKnown knownCodes readTpm2b readSigned readEntry walk
 limit-rows = refl
+
+-- ---- each line of the tables of refusals occurs (document 02, W2)
+
+-- a frame without sessions: so long, by its size field, with the last two bytes of its code, and what stands behind the header
+abbrev bare : ℕ → ℕ → ℕ → List ℕ → List ℕ
+bare size high low rest = 0x80 ∷ 0x01 ∷ 0 ∷ 0 ∷ 0 ∷ size ∷ 0 ∷ 0 ∷ high ∷ low ∷ rest
+
+-- of a command, in the Rust reading and in the standard one: the header by 1, 2, 3 and 4; the handles by 1; the authorization area by 1, by 6 and, in the standard
+-- reading, by 8
+pub command-pairs : commandBoth []
+    ∷ commandBoth (bare 10 0x01 0x44 (0 ∷ []))
+    ∷ commandBoth (underRspCommand 10 0x01 0x44 [])
+    ∷ commandBoth (bare 10 0x01 0x97 [])
+    ∷ commandBoth (bare 10 0x01 0x5e [])
+    ∷ commandBoth (B 0x1a 8 cutEntry)
+    ∷ commandBoth (B 0x2e 28 (entry ++ (entry ++ (entry ++ (0 ∷ [])))))
+    ∷ commandBoth (commandWith 92 (field 65 65 ++ (0 ∷ field 0 0)))
+    ∷ []
+    ≡ twice (inArea Header (1 ∷ 0 ∷ 10 ∷ 0 ∷ []))
+    ∷ twice (inArea Header (2 ∷ 10 ∷ 1 ∷ []))
+    ∷ twice (inArea Header (3 ∷ 0 ∷ 196 ∷ []))
+    ∷ twice (inArea Header (4 ∷ 6 ∷ 0x197 ∷ []))
+    ∷ twice (inArea Handles (1 ∷ 10 ∷ 4 ∷ 0 ∷ []))
+    ∷ twice (inArea Authorization (1 ∷ 25 ∷ 2 ∷ 1 ∷ []))
+    ∷ twice (inArea Authorization (6 ∷ 45 ∷ 3 ∷ 4 ∷ []))
+    ∷ (gives tt ∷ refuses (inArea Authorization (8 ∷ 22 ∷ 64 ∷ 65 ∷ [])) ∷ [])
+    ∷ []
+unfolding number dispatch tags tagOf sizeOf codeOf readCc framePrefix frameWhole readCommandTag handleArea sizedArea commandHandles commandAreas judgeCommand castCommand readCommand readTpm2b readSigned readEntry walk
+command-pairs = refl
+
+-- an entry of a response
+abbrev ending : List ℕ
+ending = 0 ∷ 0 ∷ 1 ∷ 0 ∷ 0 ∷ []
+
+-- the header by 1, 2, 3, 4 and 5; the handles, of a response to Load, by 1; the parameters by 1; the authorization area as in a command
+pub response-pairs : responseTo 0x17b []
+    ∷ responseTo 0x17b (bare 11 0x01 0x01 (0 ∷ []))
+    ∷ responseTo 0x17b (0 ∷ 0xc5 ∷ 0 ∷ 0 ∷ 0 ∷ 10 ∷ 0 ∷ 0 ∷ 0 ∷ 0 ∷ [])
+    ∷ responseTo 0x197 (bare 10 0 0 [])
+    ∷ responseTo 0x17b (bare 10 0 0xc4 [])
+    ∷ responseTo 0x157 (bare 10 0 0 [])
+    ∷ responseTo 0x17b (C 0x0a)
+    ∷ responseTo 0x17b (responseWith 20 (0 ∷ 0 ∷ []))
+    ∷ responseTo 0x17b (responseWith 34 (ending ++ (ending ++ (ending ++ (0 ∷ [])))))
+    ∷ responseTo 0x17b (responseWith 88 (field 65 65 ++ (0 ∷ field 0 0)))
+    ∷ []
+    ≡ twice (inArea Header (1 ∷ 0 ∷ 10 ∷ 0 ∷ []))
+    ∷ twice (inArea Header (2 ∷ 10 ∷ 1 ∷ []))
+    ∷ twice (inArea Header (3 ∷ 0 ∷ 197 ∷ []))
+    ∷ twice (inArea Header (4 ∷ 0 ∷ 0x197 ∷ []))
+    ∷ twice (inArea Header (5 ∷ 6 ∷ 0xc4 ∷ []))
+    ∷ twice (inArea Handles (1 ∷ 10 ∷ 4 ∷ 0 ∷ []))
+    ∷ twice (inArea Parameters (1 ∷ 14 ∷ 10 ∷ 9 ∷ []))
+    ∷ twice (inArea Authorization (1 ∷ 20 ∷ 1 ∷ 0 ∷ []))
+    ∷ twice (inArea Authorization (6 ∷ 33 ∷ 3 ∷ 4 ∷ []))
+    ∷ (gives tt ∷ refuses (inArea Authorization (8 ∷ 18 ∷ 64 ∷ 65 ∷ [])) ∷ [])
+    ∷ []
+unfolding number dispatch tags tagOf sizeOf codeOf readRc framePrefix frameWhole readResponseTag handleArea sizedArea judgeResponse castResponse errorAreas successAreas responseAreas readResponse readCode readFmt1 readFmt0 readIndex isKnown knownCodes readTpm2b readSigned readEntry walk
+response-pairs = refl

@@ -4,9 +4,10 @@ use Prim.Native.Nat.{ℕ}
 use mathlib.Core.List.{List, [], _∷_}
 use lib.Dec.{eqb}
 use lib.ListN.{length, take}
+use Rattle.base.specs.declared.error.Area.the-variants.{Header, Authorization}
 use Rattle.base.specs.Answer.{Part}
 use Rattle.base.specs.Members.{isIn}
-use Rattle.base.specs.Said.{Said, gives, needs, then}
+use Rattle.base.specs.Said.{inArea, Said, gives, needs, then, within}
 use Rattle.table.specs.Table.{rowFor}
 use Rattle.table.specs.Tags.{tags}
 use Rattle.frame.specs.declared.areas.Areas.{Areas}
@@ -26,15 +27,15 @@ module _ (book : Rulebook) where
   unfoldable pub commandHandles : List ℕ → Said ℕ
   commandHandles s =
       then (readCc book s) λ code.
-      then (rowFor (book .rows) code) λ row.
+      then (within Header (rowFor (book .rows) code)) λ row.
       handleArea (row .handles) s
 
   -- the areas, of bytes that no cast has seen: any known tag but the sessions tag counts as plain
   unfoldable pub commandAreas : List ℕ → Said Areas
   commandAreas s =
       then (commandHandles s) λ handles.
-      needs (isIn (tagOf s) tags) (3 ∷ 0 ∷ tagOf s ∷ [])
-      (sizedArea (eqb (tagOf s) sessions) handles s handles)
+      needs (isIn (tagOf s) tags) (inArea Header (3 ∷ 0 ∷ tagOf s ∷ []))
+      (sizedArea Authorization (eqb (tagOf s) sessions) handles s handles)
 
   -- what is judged of a command behind its size
   unfoldable pub judgeCommand : List ℕ → Said Areas

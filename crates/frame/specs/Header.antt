@@ -6,10 +6,11 @@ use mathlib.Core.Bool.{Bool, _&&_, _||_, cond}
 use mathlib.Core.List.{List, [], _∷_}
 use lib.Dec.{eqb, leb}
 use lib.ListN.{length, take, drop}
+use Rattle.base.specs.declared.error.Area.the-variants.{Header}
 use Rattle.base.specs.Bytes.{number}
 use Rattle.base.specs.Field.{writeField}
 use Rattle.base.specs.Members.{isIn}
-use Rattle.base.specs.Said.{Said, gives, needs, then, given}
+use Rattle.base.specs.Said.{inArea, Said, gives, needs, then, within, given}
 use Rattle.rc.specs.Code.{readCode}
 use Rattle.table.specs.Table.{rowFor}
 use Rattle.table.specs.Tags.{tags}
@@ -49,13 +50,13 @@ reads book tag code = cond (isRspCommand book tag) (eqb code badTag) (given (rea
 
 -- the ten bytes of the header are there
 abbrev pub header : {A : Type 0} → List ℕ → Said A → Said A
-header s rest = needs (leb 10 (length s)) (1 ∷ 0 ∷ 10 ∷ length s ∷ []) rest
+header s rest = needs (leb 10 (length s)) (inArea Header (1 ∷ 0 ∷ 10 ∷ length s ∷ [])) rest
 
 -- ---- one field read; the size is not judged
 
 -- the tag, one of those that pass a test
 abbrev pub tagOfThose : (ℕ → Bool) → List ℕ → Said ℕ
-tagOfThose isOne s = header s (needs (isOne (tagOf s)) (3 ∷ 0 ∷ tagOf s ∷ []) (gives (tagOf s)))
+tagOfThose isOne s = header s (needs (isOne (tagOf s)) (inArea Header (3 ∷ 0 ∷ tagOf s ∷ [])) (gives (tagOf s)))
 
 unfoldable pub readTag : List ℕ → Said ℕ
 readTag = tagOfThose λ tag. isIn tag tags
@@ -64,21 +65,21 @@ unfoldable pub readSize : List ℕ → Said ℕ
 readSize s = header s (gives (sizeOf s))
 
 unfoldable pub readCc : Rulebook → List ℕ → Said ℕ
-readCc book s = header s (needs (isIn (codeOf s) (book .known)) (4 ∷ 6 ∷ codeOf s ∷ []) (gives (codeOf s)))
+readCc book s = header s (needs (isIn (codeOf s) (book .known)) (inArea Header (4 ∷ 6 ∷ codeOf s ∷ [])) (gives (codeOf s)))
 
 unfoldable pub readRc : Rulebook → List ℕ → Said ℕ
-readRc book s = header s (needs (reads book (tagOf s) (codeOf s)) (5 ∷ 6 ∷ codeOf s ∷ []) (gives (codeOf s)))
+readRc book s = header s (needs (reads book (tagOf s) (codeOf s)) (inArea Header (5 ∷ 6 ∷ codeOf s ∷ [])) (gives (codeOf s)))
 
 -- ---- one field set: the bytes later
 
 unfoldable pub setTag : ℕ → List ℕ → Said (List ℕ)
-setTag tag s = header s (needs (isIn tag tags) (3 ∷ 0 ∷ tag ∷ []) (writeField 2 0 tag s))
+setTag tag s = header s (needs (isIn tag tags) (inArea Header (3 ∷ 0 ∷ tag ∷ [])) (writeField 2 0 tag s))
 
 unfoldable pub setCc : Rulebook → ℕ → List ℕ → Said (List ℕ)
-setCc book code s = header s (then (rowFor (book .rows) code) λ r. writeField 4 6 code s)
+setCc book code s = header s (then (within Header (rowFor (book .rows) code)) λ r. writeField 4 6 code s)
 
 unfoldable pub setRc : Rulebook → ℕ → List ℕ → Said (List ℕ)
-setRc book code s = header s (needs (reads book (tagOf s) code) (5 ∷ 0 ∷ code ∷ []) (writeField 4 6 code s))
+setRc book code s = header s (needs (reads book (tagOf s) code) (inArea Header (5 ∷ 0 ∷ code ∷ [])) (writeField 4 6 code s))
 
 -- ---- the envelope
 
@@ -86,13 +87,13 @@ setRc book code s = header s (needs (reads book (tagOf s) code) (5 ∷ 0 ∷ cod
 unfoldable pub framePrefix : List ℕ → Said ℕ
 framePrefix s =
     header s
-    (needs (leb 10 (sizeOf s)) (1 ∷ 2 ∷ 10 ∷ sizeOf s ∷ [])
-    (needs (leb (sizeOf s) (length s)) (1 ∷ length s ∷ (sizeOf s - length s) ∷ 0 ∷ [])
+    (needs (leb 10 (sizeOf s)) (inArea Header (1 ∷ 2 ∷ 10 ∷ sizeOf s ∷ []))
+    (needs (leb (sizeOf s) (length s)) (inArea Header (1 ∷ length s ∷ (sizeOf s - length s) ∷ 0 ∷ []))
     (gives (sizeOf s))))
 
 -- a whole frame leaves nothing behind it
 unfoldable pub frameWhole : List ℕ → Said ℕ
-frameWhole s = then (framePrefix s) λ n. needs (leb (length s) n) (2 ∷ n ∷ (length s - n) ∷ []) (gives n)
+frameWhole s = then (framePrefix s) λ n. needs (leb (length s) n) (inArea Header (2 ∷ n ∷ (length s - n) ∷ [])) (gives n)
 
 -- a command's tag is one of the two; a response's also that of the answer to a bad tag, by rules that have it
 abbrev pub isOfTwo : ℕ → Bool

@@ -7,3 +7,4 @@ pub mod Parts
 pub mod Response
 pub mod Rules
 pub mod Walk
+pub mod Where

@@ -5,8 +5,9 @@ use mathlib.Core.Bool.{_||_, cond}
 use mathlib.Core.List.{List, [], _∷_}
 use lib.Dec.{eqb, leb}
 use lib.ListN.{length, take}
+use Rattle.base.specs.declared.error.Area.the-variants.{Header, Parameters}
 use Rattle.base.specs.Answer.{Part}
-use Rattle.base.specs.Said.{Said, gives, needs, then}
+use Rattle.base.specs.Said.{inArea, Said, gives, needs, then, within}
 use Rattle.table.specs.Table.{rowFor}
 use Rattle.frame.specs.declared.areas.Areas.{Areas}
 use Rattle.frame.specs.Areas.{handleArea, sizedArea}
@@ -19,7 +20,7 @@ use Rattle.frame.specs.Walk.{walk}
 unfoldable pub successAreas : ℕ → List ℕ → Said Areas
 successAreas responses s =
     then (handleArea responses s) λ handles.
-    sizedArea (eqb (tagOf s) sessions) (length s) s handles
+    sizedArea Parameters (eqb (tagOf s) sessions) (length s) s handles
 
 module _ (book : Rulebook) where
   -- what is judged of a response behind its size
@@ -36,15 +37,15 @@ module _ (book : Rulebook) where
   -- a code other than success: a bare header, under the plain tag or as the answer to a bad tag
   unfoldable pub errorAreas : List ℕ → Said Areas
   errorAreas s =
-      needs (eqb (tagOf s) plain || isRspCommand book (tagOf s)) (3 ∷ 0 ∷ tagOf s ∷ [])
-      (needs (leb (length s) 10) (2 ∷ 10 ∷ (length s - 10) ∷ [])
+      needs (eqb (tagOf s) plain || isRspCommand book (tagOf s)) (inArea Header (3 ∷ 0 ∷ tagOf s ∷ []))
+      (needs (leb (length s) 10) (inArea Header (2 ∷ 10 ∷ (length s - 10) ∷ []))
       (gives (record { handles = 10; from = 10; to = 10 })))
 
   module _ (cc : ℕ) where
     unfoldable pub responseAreas : List ℕ → Said Areas
     responseAreas s =
         then (castResponse s) λ code.
-        then (rowFor (book .rows) cc) λ row.
+        then (within Header (rowFor (book .rows) cc)) λ row.
         cond (eqb code 0) (successAreas (row .responses) s) (errorAreas s)
 
     -- the full check of a response to the command of a code

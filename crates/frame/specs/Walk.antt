@@ -6,8 +6,9 @@ use mathlib.Core.Bool.{cond}
 use mathlib.Core.List.{List, [], _∷_}
 use lib.Dec.{leb}
 use lib.ListN.{length, getD}
+use Rattle.base.specs.declared.error.Area.the-variants.{Authorization}
 use Rattle.base.specs.Field.{readField}
-use Rattle.base.specs.Said.{Said, gives, needs, then}
+use Rattle.base.specs.Said.{inArea, Said, gives, needs, then, within}
 use Rattle.frame.specs.declared.session.Session.{Session}
 use Rattle.frame.specs.declared.session.Entries.{Entries}
 
@@ -18,9 +19,9 @@ behind e = e .hmac .at + e .hmac .size
 -- the size of the TPM2B at a place: it is within a limit, and stands whole in what is left
 unfoldable pub readTpm2b : ℕ → List ℕ → ℕ → Said ℕ
 readTpm2b limit s place =
-    then (readField 2 place s) λ size.
-    needs (leb size limit) (8 ∷ place ∷ limit ∷ size ∷ [])
-    (needs (leb (2 + size) (length s - place)) (1 ∷ place ∷ (2 + size) ∷ (length s - place) ∷ [])
+    then (within Authorization (readField 2 place s)) λ size.
+    needs (leb size limit) (inArea Authorization (8 ∷ place ∷ limit ∷ size ∷ []))
+    (needs (leb (2 + size) (length s - place)) (inArea Authorization (1 ∷ place ∷ (2 + size) ∷ (length s - place) ∷ []))
     (gives size))
 
 -- for nonces and HMACs of at most so many bytes
@@ -29,7 +30,7 @@ module _ (limit : ℕ) where
   unfoldable pub readSigned : ℕ → List ℕ → ℕ → Said Session
   readSigned handle s place =
       then (readTpm2b limit s place) λ nonce.
-      then (readField 1 (place + 2 + nonce) s) λ attributes.
+      then (within Authorization (readField 1 (place + 2 + nonce) s)) λ attributes.
       then (readTpm2b limit s (place + 2 + nonce + 1)) λ hmac.
       gives (record {
         handle = handle;
@@ -40,11 +41,11 @@ module _ (limit : ℕ) where
 
   -- an entry: the handle before it
   unfoldable pub readEntry : ℕ → List ℕ → ℕ → Said Session
-  readEntry width s place = then (readField width place s) λ handle. readSigned handle s (place + width)
+  readEntry width s place = then (within Authorization (readField width place s)) λ handle. readSigned handle s (place + width)
 
   -- the entries from a place on, of which at most k more may come
   unfoldable pub walk : ℕ → ℕ → List ℕ → ℕ → Said (List Session)
-  walk zero width s place = needs (leb (length s) place) (6 ∷ place ∷ 3 ∷ 4 ∷ []) (gives [])
+  walk zero width s place = needs (leb (length s) place) (inArea Authorization (6 ∷ place ∷ 3 ∷ 4 ∷ [])) (gives [])
   walk (suc k) width s place =
       cond (leb (length s) place) (gives [])
       (then (readEntry width s place) λ e.

@@ -6,6 +6,7 @@ ghost use Rattle.frame.specs.Areas.{handleArea, sizedArea};
 use crate::header::HEADER_SIZE;
 use base::answer::Count;
 use base::answer::Number32;
+use base::error::Area;
 use base::error::TpmError;
 use base::field::left;
 use base::field::read_u32;
@@ -30,6 +31,7 @@ pub(crate) fn handle_area(handles: u8, s: &[u8]) -> Count
     let left = left(s.len(), HEADER_SIZE);
     if left < needed {
         return Count::Refused(TpmError::UnexpectedEnd {
+            area: Area::Handles,
             offset: HEADER_SIZE,
             needed,
             available: left,
@@ -38,18 +40,25 @@ pub(crate) fn handle_area(handles: u8, s: &[u8]) -> Count
     Count::Is(HEADER_SIZE + needed)
 }
 
-// The sized bytes behind the handles. Without sessions there is no size, and they end where the caller says.
-pub(crate) fn sized_area(sessions: bool, end: usize, s: &[u8], handles: usize) -> Divided
-    ensures { λ r. ⌜ saidAreas r ≡ sizedArea sessions end (now (s .entry)) handles ⌝ }
+// The sized bytes behind the handles: entries or parameters, as their area says. Without sessions there is no size, and they end where the caller says.
+pub(crate) fn sized_area(
+    area: Area,
+    sessions: bool,
+    end: usize,
+    s: &[u8],
+    handles: usize,
+) -> Divided
+    ensures { λ r. ⌜ saidAreas r ≡ sizedArea area sessions end (now (s .entry)) handles ⌝ }
 {
     if sessions {
-        match read_u32(s, handles) {
+        match read_u32(area, s, handles) {
             Number32::Refused(e) => Divided::Refused(e),
             Number32::Is(size) => {
                 let from = handles + 4;
                 let left = s.len() - from;
                 if left < size as usize {
                     return Divided::Refused(TpmError::UnexpectedEnd {
+                        area,
                         offset: from,
                         needed: size as usize,
                         available: left,

@@ -30,6 +30,7 @@ use base::answer::Range;
 use base::answer::Tag;
 use base::code::TpmCc;
 use base::code::TpmSt;
+use base::error::Area;
 use base::error::TpmError;
 use base::field::be16;
 use base::field::be32;
@@ -78,7 +79,7 @@ pub fn cc(rules: Rules, s: &[u8]) -> CommandCode
     if cc_known(cc) {
         CommandCode::Is(cc)
     } else {
-        CommandCode::Refused(cc.refused(6))
+        CommandCode::Refused(cc.refused(Area::Header, 6))
     }
 }
 
@@ -90,7 +91,7 @@ pub fn set_cc(rules: Rules, s: &mut [u8], cc: TpmCc) -> Outcome
     if s.len() < HEADER_SIZE {
         return Outcome::Refused(short(s.len()));
     }
-    match find(cc) {
+    match find(Area::Header, cc) {
         Found::Refused(e) => Outcome::Refused(e),
         Found::Is(_) => write_u32(s, 6, cc.0),
     }
@@ -106,13 +107,13 @@ fn handles_end(rules: Rules, s: &[u8]) -> Count
         return Count::Refused(short(s.len()));
     }
     let cc = TpmCc(be32(s[6], s[7], s[8], s[9]));
-    match find(cc) {
+    match find(Area::Header, cc) {
         Found::Is(row) => handle_area(row.handles, s),
         Found::Refused(e) => {
             if cc_known(cc) {
                 Count::Refused(e)
             } else {
-                Count::Refused(cc.refused(6))
+                Count::Refused(cc.refused(Area::Header, 6))
             }
         }
     }
@@ -126,9 +127,9 @@ fn areas(rules: Rules, s: &[u8]) -> Divided
         Count::Is(handles) => {
             let tag = TpmSt(be16(s[0], s[1]));
             if tag_known(tag) {
-                sized_area(tag.0 == SESSIONS, handles, s, handles)
+                sized_area(Area::Authorization, tag.0 == SESSIONS, handles, s, handles)
             } else {
-                Divided::Refused(tag.refused(0))
+                Divided::Refused(tag.refused(Area::Header, 0))
             }
         }
     }
@@ -142,7 +143,13 @@ fn judge(rules: Rules, s: &[u8]) -> Divided
         Tag::Refused(e) => Divided::Refused(e),
         Tag::Is(tag) => match handles_end(rules, s) {
             Count::Refused(e) => Divided::Refused(e),
-            Count::Is(handles) => sized_area(tag.0 == SESSIONS, handles, s, handles),
+            Count::Is(handles) => sized_area(
+                Area::Authorization,
+                tag.0 == SESSIONS,
+                handles,
+                s,
+                handles,
+            ),
         },
     }
 }

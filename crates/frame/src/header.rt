@@ -5,7 +5,7 @@ ghost use lib.Dec.{eqb};
 ghost use lib.ListN.{length};
 ghost use Rattle.base.specs.Answer.{saidCount, saidNumber32, saidOutcome, saidTag};
 ghost use Rattle.base.specs.Error.{numbered};
-ghost use Rattle.base.specs.Said.{after, done};
+ghost use Rattle.base.specs.Said.{after, done, inArea};
 ghost use Rattle.frame.specs.Header.{framePrefix, frameWhole, isOfTwo, isResponseTag, isRspCommand, readCommandTag, readResponseTag, readSize, readTag, setTag};
 ghost use Rattle.frame.specs.Rules.{bookOf};
 use crate::rules::Rules;
@@ -15,6 +15,7 @@ use base::answer::Number32;
 use base::answer::Outcome;
 use base::answer::Tag;
 use base::code::TpmSt;
+use base::error::Area;
 use base::error::TpmError;
 use base::field::be16;
 use base::field::be32;
@@ -36,9 +37,10 @@ pub const BAD_TAG: u32 = 0x1e;
 
 // The refusal of bytes that have no whole header.
 pub(crate) fn short(len: usize) -> TpmError
-    ensures { λ r. ⌜ numbered r ≡ 1 ∷ 0 ∷ 10 ∷ len ∷ [] ⌝ }
+    ensures { λ r. ⌜ numbered r ≡ inArea Area.Header (1 ∷ 0 ∷ 10 ∷ len ∷ []) ⌝ }
 {
     TpmError::UnexpectedEnd {
+        area: Area::Header,
         offset: 0,
         needed: HEADER_SIZE,
         available: len,
@@ -56,7 +58,7 @@ pub fn tag(s: &[u8]) -> Tag
     if tag_known(tag) {
         Tag::Is(tag)
     } else {
-        Tag::Refused(tag.refused(0))
+        Tag::Refused(tag.refused(Area::Header, 0))
     }
 }
 
@@ -78,7 +80,7 @@ pub(crate) fn command_tag(s: &[u8]) -> Tag
     if is_of_two(tag) {
         Tag::Is(tag)
     } else {
-        Tag::Refused(tag.refused(0))
+        Tag::Refused(tag.refused(Area::Header, 0))
     }
 }
 
@@ -106,7 +108,7 @@ pub(crate) fn response_tag(rules: Rules, s: &[u8]) -> Tag
     if is_response_tag(rules, tag) {
         Tag::Is(tag)
     } else {
-        Tag::Refused(tag.refused(0))
+        Tag::Refused(tag.refused(Area::Header, 0))
     }
 }
 
@@ -131,7 +133,7 @@ pub fn set_tag(s: &mut [u8], tag: TpmSt) -> Outcome
     if tag_known(tag) {
         write_u16(s, 0, tag.0)
     } else {
-        Outcome::Refused(tag.refused(0))
+        Outcome::Refused(tag.refused(Area::Header, 0))
     }
 }
 
@@ -145,6 +147,7 @@ pub(crate) fn frame_prefix(s: &[u8]) -> Count
     let size = be32(s[2], s[3], s[4], s[5]) as usize;
     if size < HEADER_SIZE {
         return Count::Refused(TpmError::UnexpectedEnd {
+            area: Area::Header,
             offset: 2,
             needed: HEADER_SIZE,
             available: size,
@@ -152,6 +155,7 @@ pub(crate) fn frame_prefix(s: &[u8]) -> Count
     }
     if s.len() < size {
         return Count::Refused(TpmError::UnexpectedEnd {
+            area: Area::Header,
             offset: s.len(),
             needed: size - s.len(),
             available: 0,
@@ -170,6 +174,7 @@ pub(crate) fn frame_whole(s: &[u8]) -> Count
         Count::Is(n) => {
             if n < s.len() {
                 return Count::Refused(TpmError::TrailingData {
+                    area: Area::Header,
                     offset: n,
                     actual: s.len() - n,
                 });

@@ -38,6 +38,7 @@ use base::answer::Tag;
 use base::code::TpmCc;
 use base::code::TpmRc;
 use base::code::TpmSt;
+use base::error::Area;
 use base::error::TpmError;
 use base::field::be16;
 use base::field::be32;
@@ -102,7 +103,7 @@ pub fn rc(rules: Rules, s: &[u8]) -> ResponseCode
     if reads(rules, TpmSt(be16(s[0], s[1])), rc) {
         ResponseCode::Is(rc)
     } else {
-        ResponseCode::Refused(rc.refused(6))
+        ResponseCode::Refused(rc.refused(Area::Header, 6))
     }
 }
 
@@ -117,7 +118,7 @@ pub fn set_rc(rules: Rules, s: &mut [u8], rc: TpmRc) -> Outcome
     if reads(rules, TpmSt(be16(s[0], s[1])), rc) {
         write_u32(s, 6, rc.0)
     } else {
-        Outcome::Refused(rc.refused(0))
+        Outcome::Refused(rc.refused(Area::Header, 0))
     }
 }
 
@@ -251,7 +252,7 @@ fn success_areas(responses: u8, s: &[u8]) -> Divided
         Count::Refused(e) => Divided::Refused(e),
         Count::Is(handles) => {
             let tag = TpmSt(be16(s[0], s[1]));
-            sized_area(tag.0 == SESSIONS, s.len(), s, handles)
+            sized_area(Area::Parameters, tag.0 == SESSIONS, s.len(), s, handles)
         }
     }
 }
@@ -272,6 +273,7 @@ fn error_areas(rules: Rules, s: &[u8]) -> Divided
     if is_error_tag(rules, tag) {
         if HEADER_SIZE < s.len() {
             return Divided::Refused(TpmError::TrailingData {
+                area: Area::Header,
                 offset: HEADER_SIZE,
                 actual: s.len() - HEADER_SIZE,
             });
@@ -282,7 +284,7 @@ fn error_areas(rules: Rules, s: &[u8]) -> Divided
             to: HEADER_SIZE,
         })
     } else {
-        Divided::Refused(tag.refused(0))
+        Divided::Refused(tag.refused(Area::Header, 0))
     }
 }
 
@@ -291,7 +293,7 @@ fn areas(rules: Rules, cc: TpmCc, s: &[u8]) -> Divided
 {
     match cast_code(rules, s) {
         ResponseCode::Refused(e) => Divided::Refused(e),
-        ResponseCode::Is(code) => match find(cc) {
+        ResponseCode::Is(code) => match find(Area::Header, cc) {
             Found::Refused(e) => Divided::Refused(e),
             Found::Is(row) => {
                 if code.0 == 0 {

@@ -2,7 +2,7 @@
 ghost use mathlib.Core.Path.{_≡_};
 ghost use Prim.Native.Nat.{ℕ, _≤_};
 ghost use Rattle.base.specs.Answer.{saidCount, saidNumber16, saidOutcome};
-ghost use Rattle.base.specs.Said.{done, gives};
+ghost use Rattle.base.specs.Said.{done, gives, within};
 ghost use Rattle.frame.specs.Answer.{behindOf, entriesByValue, handleWidth};
 ghost use Rattle.frame.specs.Rules.{unlimited};
 ghost use Rattle.frame.specs.Walk.{readEntry, readSigned, readTpm2b, walk};
@@ -14,6 +14,7 @@ use base::answer::Count;
 use base::answer::Number16;
 use base::answer::Number32;
 use base::answer::Outcome;
+use base::error::Area;
 use base::error::TpmError;
 use base::field::be16;
 use base::field::be32;
@@ -26,12 +27,13 @@ fn tpm2b(limit: usize, s: &[u8], place: usize) -> Number16
     ensures { λ r. ⌜ saidNumber16 r ≡ readTpm2b limit (now (s .entry)) place ⌝ }
     ensures within { λ r. ⌜ ((size : ℕ) → saidNumber16 r ≡ gives size → size ≤ limit) ⌝ }
 {
-    let read = read_u16(s, place);
+    let read = read_u16(Area::Authorization, s, place);
     let Number16::Is(size) = read else {
         return read;
     };
     if limit < size as usize {
         return Number16::Refused(TpmError::TooManyBytes {
+            area: Area::Authorization,
             offset: place,
             limit,
             actual: size as usize,
@@ -41,6 +43,7 @@ fn tpm2b(limit: usize, s: &[u8], place: usize) -> Number16
     let left = s.len() - place;
     if left < needed {
         return Number16::Refused(TpmError::UnexpectedEnd {
+            area: Area::Authorization,
             offset: place,
             needed,
             available: left,
@@ -59,6 +62,7 @@ fn behind_signed(limit: usize, s: &[u8], place: usize) -> Count
             let at = place + 2 + nonce as usize;
             if s.len() <= at {
                 return Count::Refused(TpmError::UnexpectedEnd {
+                    area: Area::Authorization,
                     offset: at,
                     needed: 1,
                     available: 0,
@@ -77,7 +81,7 @@ fn behind_entry(limit: usize, command: bool, s: &[u8], place: usize) -> Count
     ensures { λ r. ⌜ saidCount r ≡ behindOf (readEntry limit (handleWidth command) (now (s .entry)) place) ⌝ }
 {
     if command {
-        match read_u32(s, place) {
+        match read_u32(Area::Authorization, s, place) {
             Number32::Refused(e) => Count::Refused(e),
             Number32::Is(_) => behind_signed(limit, s, place + 4),
         }
@@ -95,6 +99,7 @@ pub(crate) fn walk(limit: usize, command: bool, s: &[u8], place: usize) -> Outco
     while at < s.len() {
         if count == MAX_SESSIONS {
             return Outcome::Refused(TpmError::TooManyItems {
+                area: Area::Authorization,
                 offset: at,
                 limit: MAX_SESSIONS,
                 actual: MAX_SESSIONS + 1,

@@ -9,7 +9,7 @@ use native.Mathlib.Omega.{arith}
 use borrow.Author.Tests.{le-leb, lt-leb, lt-ltb, le-ltb}
 use lib.ListN.{length, set, take, drop, length-set}
 use Rattle.base.specs.Answer.{Part}
-use Rattle.base.specs.Said.{Said, gives, refuses, then, done, after}
+use Rattle.base.specs.Said.{Why, noArea, Said, gives, refuses, then, done, after}
 use Rattle.keeper.specs.Keeper.{Open, session, alreadyOpen, allOpen, notOpen, isOpen, asked, without, opened, closed}
 use Rattle.keeper.specs.State.{noncePlace, countOf, handleAt, sizeAt, nonceAt, openAt, below, held, placeBelow, placeOf, put, shifted, nonceRange, askedIn, bytesOf}
 use Rattle.keeper.proofs.Found.{length-held, below-same, place-most, open-found, open-not-found, asked-found, asked-not-found, without-found}
@@ -24,7 +24,7 @@ Does answer s later sessions step bytes =
 
 module _ (s : List ℕ) where
   -- a refused call leaves all as it was
-  pub refused : (said : Said (List Open)) (b : List ℕ) {why : List ℕ} → refuses why ≡ said → Does (refuses why) s s said said (λ xs. b)
+  pub refused : (said : Said (List Open)) (b : List ℕ) {why : Why} → refuses why ≡ said → Does (refuses why) s s said said (λ xs. b)
   refused said b e = rw (← e) (refl, (refl, refl))
 
   pub accepted : (said : Said (List Open)) (later : List ℕ) {xs : List Open} → gives xs ≡ said → held later ≡ xs → Does (gives tt) s later said said (λ xs. later)
@@ -53,7 +53,7 @@ module _ (s : List ℕ) (handle : ℕ) {p : ℕ} (at : p ≡ placeOf s handle) w
     opened-already h = simp (is-open h)
 
     module _ (free : p ≡ 0) where
-      pub opened-long : 64 < length nonce → refuses (8 ∷ 0 ∷ 64 ∷ length nonce ∷ []) ≡ opened handle nonce (held s)
+      pub opened-long : 64 < length nonce → refuses (noArea (8 ∷ 0 ∷ 64 ∷ length nonce ∷ [])) ≡ opened handle nonce (held s)
       unfolding opened
       opened-long h = simp (is-not-open free, lt-leb (length nonce) 64 h)
 

@@ -8,7 +8,7 @@ use native.Mathlib.Omega.{arith}
 use borrow.Author.Tests.{eq-eqb, ne-eqb}
 use lib.Dec.{eqb}
 use lib.ListN.{length}
-use Rattle.base.specs.Said.{Said, gives, refuses, then, done, after}
+use Rattle.base.specs.Said.{Why, Said, gives, refuses, then, done, after}
 use Rattle.base.proofs.Checks.{needs-gives, then-gives, gives-injective, gives≢refuses}
 use Rattle.frame.specs.declared.session.Entries.{Entries}
 use Rattle.frame.specs.declared.session.Session.{Session}
@@ -91,7 +91,7 @@ module _ (command response s : List ℕ) (all : length s ≡ 4424) where
 
 -- a refused one, and one that moves nothing, leave the bytes as they were, whatever they are
 module _ (command response s : List ℕ) where
-  pub answers-none : {why : List ℕ} → refuses why ≡ moving command response (held s)
+  pub answers-none : {why : Why} → refuses why ≡ moving command response (held s)
       → Does (refuses why) s s (answered command response (held s)) (moving command response (held s)) (λ ms. movedIn ms s)
   unfolding answered
   answers-none e = rw (← e) (refl, (refl, refl))
@@ -104,7 +104,7 @@ module _ (command response s : List ℕ) where
 -- ---- the two frames
 
 module _ (command response : List ℕ) where
-  pub command-refused : {why : List ℕ} → refuses why ≡ signed command (readCommand standard command) → (xs : List Open) → refuses why ≡ moving command response xs
+  pub command-refused : {why : Why} → refuses why ≡ signed command (readCommand standard command) → (xs : List Open) → refuses why ≡ moving command response xs
   unfolding moving exchange
   command-refused said xs =
       let read = step-refused (λ (d : Division). signedBy (codeOf command) (byValue (d .entries))) (readCommand standard command) said in
@@ -123,7 +123,7 @@ module _ (command response : List ℕ) where
     command-entries : entriesOf named ≡ command-told .0 .entries
     command-entries = ap (λ (x : Signed). entriesOf (x .entries)) (command-told .3) ∙ entries-of (command-told .0 .entries) (command-told .2)
 
-    pub response-refused : {why : List ℕ} → refuses why ≡ signed response (readResponse standard cc response) → (xs : List Open) → refuses why ≡ moving command response xs
+    pub response-refused : {why : Why} → refuses why ≡ signed response (readResponse standard cc response) → (xs : List Open) → refuses why ≡ moving command response xs
     unfolding moving exchange
     response-refused said xs =
         let read = step-refused (λ (d : Division). signedBy (codeOf response) (byValue (d .entries))) (readResponse standard cc response) said in

@@ -13,7 +13,7 @@ use denote.Ref.{now}
 use denote.Triple.Clauses.{Lasts, atExit}
 use lib.Dec.{eqb, leb, ltb}
 use lib.ListN.{length, getD, set, replicate}
-use Rattle.base.specs.Said.{Said, gives, refuses, needs, then, given, done, after}
+use Rattle.base.specs.Said.{numberOf, noArea, Said, gives, refuses, needs, then, given, done, after}
 use Rattle.base.proofs.Checks.{needs-gives, then-gives, refuses-injective, gives≢refuses}
 use Rattle.frame.specs.declared.session.Session.{Session}
 use Rattle.frame.specs.Command.{Division, readCommand}
@@ -106,10 +106,10 @@ module _ (handle : ℕ) (nonce : List ℕ) (xs : List Open) (most : length xs �
   full-tests e = by (isOpen handle xs) refl (leb (length nonce) 64) refl (ltb (length xs) 64) refl e
     where
       by : (a : Bool) → isOpen handle xs ≡ a → (b : Bool) → leb (length nonce) 64 ≡ b → (c : Bool) → ltb (length xs) 64 ≡ c
-          → needs (not a) alreadyOpen (needs b (8 ∷ 0 ∷ 64 ∷ length nonce ∷ []) (needs c allOpen (gives (session handle nonce ∷ xs)))) ≡ refuses allOpen
+          → needs (not a) alreadyOpen (needs b (noArea (8 ∷ 0 ∷ 64 ∷ length nonce ∷ [])) (needs c allOpen (gives (session handle nonce ∷ xs)))) ≡ refuses allOpen
           → (isOpen handle xs ≡ false) × (length nonce ≤ 64) × (length xs ≡ 64)
-      by true a b e c f told = absurd (let same : _≡_ {A = ℕ} 15 16 = ap (λ (l : List ℕ). getD l 0 0) (refuses-injective told) in omega arith)
-      by false a false e c f told = absurd (let same : _≡_ {A = ℕ} 8 16 = ap (λ (l : List ℕ). getD l 0 0) (refuses-injective told) in omega arith)
+      by true a b e c f told = absurd (let same : _≡_ {A = ℕ} 15 16 = ap numberOf (refuses-injective told) in omega arith)
+      by false a false e c f told = absurd (let same : _≡_ {A = ℕ} 8 16 = ap numberOf (refuses-injective told) in omega arith)
       by false a true e true f told = absurd (gives≢refuses told)
       by false a true e false f told = (a, leb-true (length nonce) 64 e, (let many = ltb-false (length xs) 64 f in omega arith))
 

@@ -7,7 +7,7 @@ use Prim.Native.Nat.{ℕ, zero, suc}
 use lib.Dec.{eqb, leb, ltb}
 use lib.ListN.{length}
 use Rattle.base.specs.Said.{Never}
-use Rattle.base.proofs.Never.{by-gives, by-refuses, by-needs, by-cond, by-then, by-step}
+use Rattle.base.proofs.Only.{by-gives, by-refuses, by-needs, by-cond, by-then, by-step}
 use Rattle.frame.specs.declared.session.Session.{Session}
 use Rattle.frame.specs.Header.{codeOf}
 use Rattle.frame.proofs.Never.{never-command, never-response}

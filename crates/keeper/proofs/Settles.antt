@@ -9,7 +9,7 @@ use borrow.Author.Tests.{eq-eqb, ne-eqb, ltb-true}
 use lib.Dec.{ltb}
 use lib.ListN.{length, take}
 use lib.Seq.{length-take-le}
-use Rattle.base.specs.Said.{Said, gives, refuses, done, after}
+use Rattle.base.specs.Said.{Why, Said, gives, refuses, done, after}
 use Rattle.frame.specs.declared.session.Entries.{Entries}
 use Rattle.frame.specs.declared.session.Field.{Field}
 use Rattle.frame.specs.declared.session.Session.{Session}
@@ -87,7 +87,7 @@ module _ (s : List ℕ) (all : length s ≡ 4424) (command response : Entries) (
       ∙ sym (repeated-three s (command .first) (command .second) (command .third) (command .count) few)
 
   -- what is refused leaves the bytes as they were
-  left-alone : {why : List ℕ} → refuses why ≡ judged
+  left-alone : {why : Why} → refuses why ≡ judged
       → (refuses why ≡ done judged) × (s ≡ after s (settledIn bytes (entriesOf command) (entriesOf response) s))
   unfolding settledIn
   left-alone e = rw (← e) (refl, refl)

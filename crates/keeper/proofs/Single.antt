@@ -9,7 +9,7 @@ use lib.ListN.{getD}
 use Rattle.base.specs.declared.error.TpmError.{TpmError}
 use Rattle.base.specs.Answer.{Part}
 use Rattle.base.specs.Error as frame
-use Rattle.base.specs.Said.{Said, gives, refuses}
+use Rattle.base.specs.Said.{Why, numberOf, Said, gives, refuses}
 use Rattle.base.specs.Single.{Single}
 use Rattle.base.proofs.Answers.{injective-by}
 use Rattle.base.proofs.Refusals.{named, named-numbered, no-other}
@@ -37,13 +37,13 @@ use Rattle.keeper.proofs.answer.answer.Reads as answer-reads
 -- ---- the numbers tell the refusals apart
 
 -- the refusal that a number names; what is no number of the keeper's own is a frame's
-abbrev refusalOf : List ℕ → Refusal
+abbrev refusalOf : Why → Refusal
 refusalOf why =
-    cond (eqb (getD why 0 0) (getD handleRepeated 0 0)) refusal.HandleRepeated
-    (cond (eqb (getD why 0 0) (getD countsDiffer 0 0)) refusal.CountsDiffer
-    (cond (eqb (getD why 0 0) (getD alreadyOpen 0 0)) refusal.AlreadyOpen
-    (cond (eqb (getD why 0 0) (getD allOpen 0 0)) refusal.AllOpen
-    (cond (eqb (getD why 0 0) (getD notOpen 0 0)) refusal.NotOpen
+    cond (eqb (numberOf why) (numberOf handleRepeated)) refusal.HandleRepeated
+    (cond (eqb (numberOf why) (numberOf countsDiffer)) refusal.CountsDiffer
+    (cond (eqb (numberOf why) (numberOf alreadyOpen)) refusal.AlreadyOpen
+    (cond (eqb (numberOf why) (numberOf allOpen)) refusal.AllOpen
+    (cond (eqb (numberOf why) (numberOf notOpen)) refusal.NotOpen
     (refusal.Frame (named why))))))
 
 told-frame : (e : TpmError) → refusalOf (frame.numbered e) ≡ refusal.Frame (named (frame.numbered e))

@@ -5,7 +5,7 @@ use mathlib.Core.Bool.{Bool, false, not, _&&_, _||_, cond}
 use mathlib.Core.List.{List, [], _∷_}
 use lib.Dec.{eqb, leb, ltb}
 use lib.ListN.{length}
-use Rattle.base.specs.Said.{Said, gives, refuses, needs, then}
+use Rattle.base.specs.Said.{Why, noArea, Said, gives, refuses, needs, then}
 use Rattle.frame.specs.declared.rules.Reading.the-variants as reading
 use Rattle.frame.specs.declared.session.Session.{Session}
 use Rattle.frame.specs.Command.{readCommand}
@@ -23,20 +23,20 @@ abbrev pub session : ℕ → List ℕ → Open
 session handle nonce = record { handle = handle; nonce = nonce }
 
 -- the refusals that have no fields
-abbrev pub handleRepeated : List ℕ
-handleRepeated = 13 ∷ []
+abbrev pub handleRepeated : Why
+handleRepeated = noArea (13 ∷ [])
 
-abbrev pub countsDiffer : List ℕ
-countsDiffer = 14 ∷ []
+abbrev pub countsDiffer : Why
+countsDiffer = noArea (14 ∷ [])
 
-abbrev pub alreadyOpen : List ℕ
-alreadyOpen = 15 ∷ []
+abbrev pub alreadyOpen : Why
+alreadyOpen = noArea (15 ∷ [])
 
-abbrev pub allOpen : List ℕ
-allOpen = 16 ∷ []
+abbrev pub allOpen : Why
+allOpen = noArea (16 ∷ [])
 
-abbrev pub notOpen : List ℕ
-notOpen = 17 ∷ []
+abbrev pub notOpen : Why
+notOpen = noArea (17 ∷ [])
 
 -- ---- one session of those that are open, the newest first
 
@@ -64,7 +64,7 @@ without handle (x ∷ xs) = cond (eqb (x .handle) handle) xs (replace handle x x
 unfoldable pub opened : ℕ → List ℕ → List Open → Said (List Open)
 opened handle nonce xs =
     needs (not (isOpen handle xs)) alreadyOpen
-    (needs (leb (length nonce) 64) (8 ∷ 0 ∷ 64 ∷ length nonce ∷ [])
+    (needs (leb (length nonce) 64) (noArea (8 ∷ 0 ∷ 64 ∷ length nonce ∷ []))
     (needs (ltb (length xs) 64) allOpen
     (gives (session handle nonce ∷ xs))))
 

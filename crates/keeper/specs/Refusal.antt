@@ -1,10 +1,8 @@
 -- The keeper's answers in the paper's terms: the numbers that document 02 (W8) gives its refusals, and a frame's own.
 -- Assumes nothing: these are definitions.
-use Prim.Native.Nat.{ℕ}
-use mathlib.Core.List.{List}
 use Rattle.base.specs.Answer.{Part}
 use Rattle.base.specs.Error as frame
-use Rattle.base.specs.Said.{Said, gives, refuses}
+use Rattle.base.specs.Said.{Why, Said, gives, refuses}
 use Rattle.keeper.specs.declared.refusal.Refusal.{Refusal}
 use Rattle.keeper.specs.declared.refusal.Refusal.the-variants as refusal
 use Rattle.keeper.specs.declared.refusal.Outcome.{Outcome}
@@ -13,7 +11,7 @@ use Rattle.keeper.specs.declared.refusal.Asked.{Asked}
 use Rattle.keeper.specs.declared.refusal.Asked.the-variants as asked
 use Rattle.keeper.specs.Keeper.{handleRepeated, countsDiffer, alreadyOpen, allOpen, notOpen}
 
-abbrev pub numbered : Refusal → List ℕ
+abbrev pub numbered : Refusal → Why
 numbered (refusal.Frame e) = frame.numbered e
 numbered refusal.HandleRepeated = handleRepeated
 numbered refusal.CountsDiffer = countsDiffer

@@ -18,6 +18,7 @@ use crate::state::place;
 use crate::state::put;
 use crate::state::shift;
 use crate::state::size_at;
+use base::error::Area;
 use base::error::TpmError;
 
 // The most bytes of a nonce (document 02, W6 and W8).
@@ -48,6 +49,7 @@ pub fn open(keeper: &mut State, handle: u32, nonce: &[u8]) -> Outcome
     }
     if LONGEST < nonce.len() {
         return Outcome::Refused(Refusal::Frame(TpmError::TooManyBytes {
+            area: Area::None,
             offset: 0,
             limit: LONGEST,
             actual: nonce.len(),

@@ -13,7 +13,7 @@ use Rattle.base.specs.declared.error.WriteError.{WriteError}
 use Rattle.base.specs.Answer.{saidTotal}
 use Rattle.base.specs.Bytes.{AreBytes}
 use Rattle.base.specs.Error.{writerNumbered}
-use Rattle.base.specs.Said.{Said, gives, refuses}
+use Rattle.base.specs.Said.{Why, Said, gives, refuses}
 use Rattle.base.proofs.Answers.{saidTotal-injective}
 use Rattle.base.proofs.Checks.{gives-injective, refuses-injective, gives≢refuses}
 use Rattle.frame.specs.Layout.{Frame}
@@ -28,7 +28,7 @@ abbrev pub Written : List ℕ → Total → List ℕ → List ℕ → Type 0
 Written room x later t = (x ≡ total.Is (length t)) × (later ≡ t ++ drop (length t) room)
 
 -- the call is refused by number, and the room is as it was
-abbrev pub Refused : List ℕ → Total → List ℕ → List ℕ → Type 0
+abbrev pub Refused : List ℕ → Total → List ℕ → Why → Type 0
 Refused room x later why = (saidTotal x ≡ refuses why) × (later ≡ room)
 
 -- A call that was handed h, and so asked for a frame of some code. `From s d` says that what was handed over are the parts that the
@@ -46,7 +46,7 @@ pub record Writes {D : Type 0} (limit : ℕ) (read : List ℕ → Said D) (parts
   -- a refused call leaves the room as it was
   pub leaves : (why : WriteError) → x ≡ total.Refused why → later ≡ room
 
-counted-refuses : (said : Said (List ℕ)) {why : List ℕ} → counted said ≡ refuses why → said ≡ refuses why
+counted-refuses : (said : Said (List ℕ)) {why : Why} → counted said ≡ refuses why → said ≡ refuses why
 counted-refuses (gives t) e = absurd (gives≢refuses e)
 counted-refuses (refuses why) e = ap refuses (refuses-injective e)
 
@@ -59,7 +59,7 @@ module _ (room : List ℕ) (x : Total) (later : List ℕ) (said : Said (List ℕ
       let is = room-is room e in
       (saidTotal-injective x (total.Is (length t)) (answer ∙ is .0), bytes ∙ is .1)
 
-  pub is-refused : {why : List ℕ} → said ≡ refuses why → Refused room x later why
+  pub is-refused : {why : Why} → said ≡ refuses why → Refused room x later why
   is-refused e = (answer ∙ ap counted e, bytes ∙ ap (roomAfter room) e)
 
   pub refused-exactly : (e : WriteError) → (x ≡ total.Refused e) ↔ (said ≡ refuses (writerNumbered e))

@@ -10,7 +10,7 @@ use lib.Dec.{eqb}
 use lib.ListN.{length, length-take, take}
 use Rattle.base.specs.Bytes.{AreBytes}
 use Rattle.base.specs.Members.{isIn}
-use Rattle.base.specs.Said.{gives, refuses}
+use Rattle.base.specs.Said.{noArea, gives, refuses}
 use Rattle.base.proofs.Checks.{then-gives, gives-injective}
 use Rattle.table.specs.Table.{rowFor}
 use Rattle.table.specs.Tags.{tags}
@@ -113,7 +113,7 @@ module _ (book : Rulebook) where
 
   -- .. but under the sessions tag with no entry the command is refused with InvalidTag
   pub command-empty : (s : List ℕ) (c : Command) (room : ℕ) → c .tag .0 ≡ sessions → c .entries .count ≡ 0
-      → writeCommand book (c .tag .0) (c .cc .0) (commandHanded s c) room ≡ refuses (3 ∷ 0 ∷ 0x8002 ∷ [])
+      → writeCommand book (c .tag .0) (c .cc .0) (commandHanded s c) room ≡ refuses (noArea (3 ∷ 0 ∷ 0x8002 ∷ []))
   command-empty s c room tag none =
       sym (wrong-tag book (c .tag .0) (c .cc .0) (commandHanded s c) room (λ e. let other : c .tag .0 ≡ tagFor 0 = rw none at e in omega arith))
-      ∙ ap (λ (n : ℕ). refuses (3 ∷ 0 ∷ n ∷ [])) tag
+      ∙ ap (λ (n : ℕ). refuses (noArea (3 ∷ 0 ∷ n ∷ []))) tag

@@ -8,7 +8,7 @@ use native.Mathlib.Omega.{arith}
 use borrow.Author.Tests.{le-leb, lt-leb, leb-false}
 use lib.Dec.{eqb, leb}
 use lib.ListN.{length, take}
-use Rattle.base.specs.Said.{Said, gives, refuses, needs, then, given}
+use Rattle.base.specs.Said.{Why, noArea, Said, gives, refuses, needs, then, given}
 use Rattle.base.proofs.Checks.{passes, fails, goes-on, stops, then-gives, gives-injective, refuses-injective, gives≢refuses}
 use Rattle.frame.specs.declared.session.Entries.{Entries}
 use Rattle.frame.specs.declared.session.Field.{Field}
@@ -30,7 +30,7 @@ module _ (limit len : ℕ) where
   pub by-position : (f : Field) → f .size ≤ limit → leb (f .at + f .size) len ≡ given (fieldThere limit len f)
   by-position f few = rw (le-leb (f .size) limit few) (by (leb (f .at + f .size) len) _)
     where
-      by : (b : Bool) (w : List ℕ) → b ≡ given (needs b w (gives (tt {0})))
+      by : (b : Bool) (w : Why) → b ≡ given (needs b w (gives (tt {0})))
       by true w = refl
       by false w = refl
 
@@ -38,17 +38,17 @@ module _ (limit len : ℕ) where
   too-long f long = rw (lt-leb (f .size) limit long) refl
 
   pub is-there : (f : Field) → given (fieldThere limit len f) ≡ true → fieldThere limit len f ≡ gives tt
-  is-there f e = by (leb (f .size) limit) (leb (f .at + f .size) len) (8 ∷ 0 ∷ limit ∷ f .size ∷ []) (1 ∷ f .at ∷ f .size ∷ (len - f .at) ∷ []) e
+  is-there f e = by (leb (f .size) limit) (leb (f .at + f .size) len) (noArea (8 ∷ 0 ∷ limit ∷ f .size ∷ [])) (noArea (1 ∷ f .at ∷ f .size ∷ (len - f .at) ∷ [])) e
     where
-      by : (b c : Bool) (v w : List ℕ) → given (needs b v (needs c w (gives (tt {0})))) ≡ true → needs b v (needs c w (gives (tt {0}))) ≡ gives tt
+      by : (b c : Bool) (v w : Why) → given (needs b v (needs c w (gives (tt {0})))) ≡ true → needs b v (needs c w (gives (tt {0}))) ≡ gives tt
       by true true v w e = refl
       by true false v w e = absurd (false≢true e)
       by false c v w e = absurd (false≢true e)
 
   pub not-there : (f : Field) → given (fieldThere limit len f) ≡ false → refuses (whyNot limit len (f .at) (f .size)) ≡ fieldThere limit len f
-  not-there f e = by (leb (f .size) limit) (leb (f .at + f .size) len) (8 ∷ 0 ∷ limit ∷ f .size ∷ []) (1 ∷ f .at ∷ f .size ∷ (len - f .at) ∷ []) e
+  not-there f e = by (leb (f .size) limit) (leb (f .at + f .size) len) (noArea (8 ∷ 0 ∷ limit ∷ f .size ∷ [])) (noArea (1 ∷ f .at ∷ f .size ∷ (len - f .at) ∷ [])) e
     where
-      by : (b c : Bool) (v w : List ℕ) → given (needs b v (needs c w (gives (tt {0})))) ≡ false → refuses (cond b w v) ≡ needs b v (needs c w (gives (tt {0})))
+      by : (b c : Bool) (v w : Why) → given (needs b v (needs c w (gives (tt {0})))) ≡ false → refuses (cond b w v) ≡ needs b v (needs c w (gives (tt {0})))
       by true true v w e = absurd (false≢true (sym e))
       by true false v w e = refl
       by false c v w e = refl
@@ -71,7 +71,7 @@ module _ (limit len : ℕ) where
   none-there = refl
 
   module _ (e : Session) (es : List Session) where
-    pub first-missing : {why : List ℕ} → refuses why ≡ sessionThere limit len e → refuses why ≡ sessionsThere limit len (e ∷ es)
+    pub first-missing : {why : Why} → refuses why ≡ sessionThere limit len e → refuses why ≡ sessionsThere limit len (e ∷ es)
     unfolding sessionsThere
     first-missing missing = stops (sessionThere limit len e) _ missing
 
@@ -155,12 +155,12 @@ pub sum-of : (tag : ℕ) (h : Handed) (handles entries : ℕ) {size parameters t
 sum-of tag h handles entries {size} {parameters} {total} sum is ps = rw (is, ← ps) at sum
 
 module _ (limit width tag handles : ℕ) (h : Handed) (room : ℕ) where
-  pub few-handles : length (h .handles) < 4 * handles → refuses (1 ∷ 0 ∷ (4 * handles) ∷ length (h .handles) ∷ []) ≡ judged limit width tag handles h room
+  pub few-handles : length (h .handles) < 4 * handles → refuses (noArea (1 ∷ 0 ∷ (4 * handles) ∷ length (h .handles) ∷ [])) ≡ judged limit width tag handles h room
   unfolding judged
   few-handles short = fails (leb (4 * handles) (length (h .handles))) _ _ (lt-leb (4 * handles) (length (h .handles)) short)
 
   pub many-handles : 4 * handles < length (h .handles)
-      → refuses (2 ∷ (4 * handles) ∷ (length (h .handles) - 4 * handles) ∷ []) ≡ judged limit width tag handles h room
+      → refuses (noArea (2 ∷ (4 * handles) ∷ (length (h .handles) - 4 * handles) ∷ [])) ≡ judged limit width tag handles h room
   unfolding judged
   many-handles long =
       fails (leb (length (h .handles)) (4 * handles)) _ _ (lt-leb (length (h .handles)) (4 * handles) long)
@@ -171,7 +171,7 @@ module _ (limit width tag handles : ℕ) (h : Handed) (room : ℕ) where
     abbrev behind : Said ℕ
     behind =
         then (sessionsThere limit (length (h .lent)) (entriesOf (h .sessions))) λ there.
-        needs (leb (totalSize width tag h) 4294967295) (7 ∷ 0 ∷ capped (totalSize width tag h) ∷ [])
+        needs (leb (totalSize width tag h) 4294967295) (noArea (7 ∷ 0 ∷ capped (totalSize width tag h) ∷ []))
         (fitted (totalSize width tag h) room)
 
     handles-pass : behind ≡ judged limit width tag handles h room
@@ -180,11 +180,11 @@ module _ (limit width tag handles : ℕ) (h : Handed) (room : ℕ) where
         passes (leb (length (h .handles)) (4 * handles)) _ behind (le-leb (length (h .handles)) (4 * handles) (omega arith))
         ∙ passes (leb (4 * handles) (length (h .handles))) _ _ (le-leb (4 * handles) (length (h .handles)) (omega arith))
 
-    pub field-missing : {why : List ℕ} → refuses why ≡ entriesSaid limit width (length (h .lent)) (entriesOf (h .sessions)) → refuses why ≡ judged limit width tag handles h room
+    pub field-missing : {why : Why} → refuses why ≡ entriesSaid limit width (length (h .lent)) (entriesOf (h .sessions)) → refuses why ≡ judged limit width tag handles h room
     field-missing said =
         stops (sessionsThere limit (length (h .lent)) (entriesOf (h .sessions))) _ (by (sessionsThere limit (length (h .lent)) (entriesOf (h .sessions))) said) ∙ handles-pass
       where
-        by : {why : List ℕ} (s : Said (Unit {0})) → refuses why ≡ then s (λ there. gives (entriesLength width (entriesOf (h .sessions)))) → refuses why ≡ s
+        by : {why : Why} (s : Said (Unit {0})) → refuses why ≡ then s (λ there. gives (entriesLength width (entriesOf (h .sessions)))) → refuses why ≡ s
         by (gives u) r = absurd (gives≢refuses (sym r))
         by (refuses other) r = ap refuses (refuses-injective r)
 
@@ -197,15 +197,15 @@ module _ (limit width tag handles : ℕ) (h : Handed) (room : ℕ) where
           let same : 10 + 4 * handles + cond (eqb tag sessions) 4 0 + entries + length (h .parameters) ≡ totalSize width tag h = rw (count, is) refl in
           sum ∙ ap capped same
 
-      all-there : needs (leb (totalSize width tag h) 4294967295) (7 ∷ 0 ∷ capped (totalSize width tag h) ∷ []) (fitted (totalSize width tag h) room)
+      all-there : needs (leb (totalSize width tag h) 4294967295) (noArea (7 ∷ 0 ∷ capped (totalSize width tag h) ∷ [])) (fitted (totalSize width tag h) room)
           ≡ judged limit width tag handles h room
       all-there =
           goes-on (sessionsThere limit (length (h .lent)) (entriesOf (h .sessions))) _ (sym (then-gives (sessionsThere limit (length (h .lent)) (entriesOf (h .sessions))) _ (sym said) .1))
           ∙ handles-pass
 
-      pub too-large : 4294967295 < total → refuses (7 ∷ 0 ∷ total ∷ []) ≡ judged limit width tag handles h room
+      pub too-large : 4294967295 < total → refuses (noArea (7 ∷ 0 ∷ total ∷ [])) ≡ judged limit width tag handles h room
       too-large large =
-          ap (λ (n : ℕ). refuses (7 ∷ 0 ∷ n ∷ [])) total-capped
+          ap (λ (n : ℕ). refuses (noArea (7 ∷ 0 ∷ n ∷ []))) total-capped
           ∙ fails (leb (totalSize width tag h) 4294967295) _ (fitted (totalSize width tag h) room)
           (lt-leb (totalSize width tag h) 4294967295 (large-capped (totalSize width tag h) (rw (← total-capped) large)))
           ∙ all-there

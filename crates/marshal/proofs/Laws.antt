@@ -20,7 +20,7 @@ use Rattle.base.specs.declared.error.WriteError.the-variants.{IntegerTooLarge}
 use Rattle.base.specs.Answer.{saidTotal}
 use Rattle.base.specs.Bytes.{AreBytes}
 use Rattle.base.specs.Members.{isIn}
-use Rattle.base.specs.Said.{Said, gives, refuses}
+use Rattle.base.specs.Said.{Why, noArea, Said, gives, refuses}
 use Rattle.table.specs.Dispatch.{dispatch, commandCodes}
 use Rattle.table.specs.Table.{rowFor}
 use Rattle.table.specs.declared.row.Row.{Row}
@@ -95,7 +95,7 @@ module _ (room : List ℕ) where
       command-again enough some = room-is room (command.command-again command-book has-code two-tags s c read are (length room) enough some)
 
       pub command-empty : c .tag .0 ≡ sessions → c .entries .count ≡ 0
-          → writeCommand command-book (c .tag .0) (c .cc .0) (commandHanded s c) (length room) ≡ refuses (3 ∷ 0 ∷ 0x8002 ∷ [])
+          → writeCommand command-book (c .tag .0) (c .cc .0) (commandHanded s c) (length room) ≡ refuses (noArea (3 ∷ 0 ∷ 0x8002 ∷ []))
       command-empty = command.command-empty command-book s c (length room)
 
   -- ---- responses to the command of a code
@@ -132,7 +132,7 @@ module _ (room : List ℕ) where
 
 -- ---- what a refused call leaves
 
-pub refused-leaves : (room : List ℕ) {said : Said (List ℕ)} {why : List ℕ} → said ≡ refuses why → roomAfter room said ≡ room
+pub refused-leaves : (room : List ℕ) {said : Said (List ℕ)} {why : Why} → said ≡ refuses why → roomAfter room said ≡ room
 refused-leaves room e = ap (roomAfter room) e
 
 -- ---- what callers are answered, by the contracts of `command::write` and `response::write`
@@ -150,7 +150,7 @@ module _ (book : Rulebook) (tag code : ℕ) (h : Handed) (room : List ℕ) (x : 
   CommandWrites =
       Writes (book .longest) (λ s. commandByValue s (readCommand book s)) commandParts layoutCommand (CommandFormed book)
       CommandFrom (λ c. Bare (c .tag .0) (c .entries .count)) h code (commandFrame tag code h) room x later
-      × ((s : List ℕ) (c : Command) → CommandFrom s c → Bare (c .tag .0) (c .entries .count) → Refused room x later (3 ∷ 0 ∷ 0x8002 ∷ []))
+      × ((s : List ℕ) (c : Command) → CommandFrom s c → Bare (c .tag .0) (c .entries .count) → Refused room x later (noArea (3 ∷ 0 ∷ 0x8002 ∷ [])))
       × ((n : ℕ) → (x ≡ total.Refused (IntegerTooLarge 0 n)) ↔ CommandTooLarge book tag code h n)
 
   abbrev commandSaid : Said (List ℕ)

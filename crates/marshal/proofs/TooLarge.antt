@@ -9,13 +9,13 @@ use native.Mathlib.Omega.{arith}
 use borrow.Author.Tests.{le-leb, lt-leb, leb-true, leb-false, eqb-true}
 use lib.Dec.{eqb, leb, ltb}
 use lib.ListN.{length, getD}
-use Rattle.base.specs.Said.{Said, gives, refuses, Never, needs, then, given}
+use Rattle.base.specs.Said.{Why, numberOf, noArea, Said, gives, refuses, Never, needs, then, given}
 use Rattle.base.proofs.Checks.{stops, gives≢refuses, refuses-injective}
-use Rattle.base.proofs.Never.{by-gives, by-needs, by-then, by-step, not-by}
+use Rattle.base.proofs.Only.{by-gives, by-needs, by-then, by-step, not-by}
 use Rattle.rc.specs.Code.{readCode}
 use Rattle.table.specs.Table.{rowFor}
 use Rattle.table.specs.declared.row.Row.{Row}
-use Rattle.table.proofs.Never.{never-row}
+use Rattle.table.proofs.Only.{never-row}
 use Rattle.frame.specs.declared.session.Field.{Field}
 use Rattle.frame.specs.declared.session.Session.{Session}
 use Rattle.frame.specs.Header.{sessions, badTag, isOfTwo}
@@ -41,25 +41,25 @@ use Rattle.marshal.proofs.Writers.{tag-same, row-found, success-is}
 -- ---- how an order of checks refuses
 
 module _ {A : Type 0} where
-  needs-refuses : (t : Bool) (why : List ℕ) (rest : Said A) {w : List ℕ} → needs t why rest ≡ refuses w
+  needs-refuses : (t : Bool) (why : Why) (rest : Said A) {w : Why} → needs t why rest ≡ refuses w
       → ((t ≡ true) × (rest ≡ refuses w)) ⊎ ((t ≡ false) × (why ≡ w))
   needs-refuses true why rest e = inl (refl, e)
   needs-refuses false why rest e = inr (refl, refuses-injective e)
 
-  cond-refuses : (t : Bool) (x y : Said A) {w : List ℕ} → cond t x y ≡ refuses w
+  cond-refuses : (t : Bool) (x y : Said A) {w : Why} → cond t x y ≡ refuses w
       → ((t ≡ true) × (x ≡ refuses w)) ⊎ ((t ≡ false) × (y ≡ refuses w))
   cond-refuses true x y e = inl (refl, e)
   cond-refuses false x y e = inr (refl, e)
 
-  then-refuses : {B : Type 0} (s : Said A) (f : A → Said B) {w : List ℕ} → then s f ≡ refuses w
+  then-refuses : {B : Type 0} (s : Said A) (f : A → Said B) {w : Why} → then s f ≡ refuses w
       → ((a : A) × (s ≡ gives a) × (f a ≡ refuses w)) ⊎ (s ≡ refuses w)
   then-refuses (gives a) f e = inl (a, refl, e)
   then-refuses (refuses why) f e = inr (ap refuses (refuses-injective e))
 
 -- a check with another number was passed
-passed : {A : Type 0} (t : Bool) (why : List ℕ) (rest : Said A) {w : List ℕ} → (getD why 0 0 ≡ getD w 0 0 → ⊥) → needs t why rest ≡ refuses w
+passed : {A : Type 0} (t : Bool) (why : Why) (rest : Said A) {w : Why} → (numberOf why ≡ numberOf w → ⊥) → needs t why rest ≡ refuses w
     → (t ≡ true) × (rest ≡ refuses w)
-passed t why rest {w} other e = elim (needs-refuses t why rest e) [ inl p ↦ p | inr same ↦ absurd (other (ap (λ (l : List ℕ). getD l 0 0) (same .1))) ]
+passed t why rest {w} other e = elim (needs-refuses t why rest e) [ inl p ↦ p | inr same ↦ absurd (other (ap numberOf (same .1))) ]
 
 -- no session is refused by 7
 never-there : (limit len : ℕ) (f : Field) → Never 7 (fieldThere limit len f)
@@ -81,7 +81,7 @@ pub record TooLarge (limit width tag handles : ℕ) (h : Handed) (n : ℕ) : Typ
   pub told : n ≡ capped (totalSize width tag h)
 
 module _ (limit width tag handles : ℕ) (h : Handed) (room n : ℕ) where
-  judged-too-large : judged limit width tag handles h room ≡ refuses (7 ∷ 0 ∷ n ∷ []) → TooLarge limit width tag handles h n
+  judged-too-large : judged limit width tag handles h room ≡ refuses (noArea (7 ∷ 0 ∷ n ∷ [])) → TooLarge limit width tag handles h n
   unfolding judged
   judged-too-large e =
       let few = passed (leb (4 * handles) (length (h .handles))) _ _ (λ q. omega arith) e in
@@ -96,17 +96,17 @@ module _ (limit width tag handles : ℕ) (h : Handed) (room n : ℕ) where
             handle-count = omega arith;
             there = p .1;
             large = leb-false (totalSize width tag h) 4294967295 (large .0);
-            told = ap (λ (l : List ℕ). getD l 2 0) (sym (large .1));
+            told = ap (λ (w : Why). getD (w .numbers) 2 0) (sym (large .1));
           }
         ]
       ]
 
-  too-large-judged : TooLarge limit width tag handles h n → judged limit width tag handles h room ≡ refuses (7 ∷ 0 ∷ n ∷ [])
+  too-large-judged : TooLarge limit width tag handles h n → judged limit width tag handles h room ≡ refuses (noArea (7 ∷ 0 ∷ n ∷ []))
   unfolding judged
   too-large-judged t =
       let count = t .handle-count in
       rw (le-leb (4 * handles) (length (h .handles)) (omega arith), le-leb (length (h .handles)) (4 * handles) (omega arith), t .there)
-      (rw (lt-leb (totalSize width tag h) 4294967295 (t .large)) (ap (λ (m : ℕ). refuses (7 ∷ 0 ∷ m ∷ [])) (sym (t .told))))
+      (rw (lt-leb (totalSize width tag h) 4294967295 (t .large)) (ap (λ (m : ℕ). refuses (noArea (7 ∷ 0 ∷ m ∷ []))) (sym (t .told))))
 
 -- ---- commands
 
@@ -118,7 +118,7 @@ pub record CommandTooLarge (book : Rulebook) (tag code : ℕ) (h : Handed) (n : 
   pub too-large : TooLarge (book .longest) 4 tag (row .handles) h n
 
 module _ (book : Rulebook) (tag code : ℕ) (h : Handed) (room n : ℕ) where
-  command-is-too-large : writeCommand book tag code h room ≡ refuses (7 ∷ 0 ∷ n ∷ []) → CommandTooLarge book tag code h n
+  command-is-too-large : writeCommand book tag code h room ≡ refuses (noArea (7 ∷ 0 ∷ n ∷ [])) → CommandTooLarge book tag code h n
   unfolding writeCommand
   command-is-too-large e =
       let two = passed (isOfTwo tag) _ _ (λ q. omega arith) e in
@@ -138,7 +138,7 @@ module _ (book : Rulebook) (tag code : ℕ) (h : Handed) (room n : ℕ) where
         ]
       ]
 
-  pub command-too-large : (writeCommand book tag code h room ≡ refuses (7 ∷ 0 ∷ n ∷ [])) ↔ CommandTooLarge book tag code h n
+  pub command-too-large : (writeCommand book tag code h room ≡ refuses (noArea (7 ∷ 0 ∷ n ∷ []))) ↔ CommandTooLarge book tag code h n
   command-too-large = (
     command-is-too-large,
     (λ t.
@@ -169,7 +169,7 @@ module _ (code count room : ℕ) where
   never-bad-tag = by-needs (eqb code 0 || eqb count 0) _ refl (by-needs (eqb code badTag) _ refl (never-bare true))
 
 module _ (book : Rulebook) (asked : Bool) (cc code : ℕ) (h : Handed) (room n : ℕ) where
-  response-is-too-large : writeResponse book asked cc code h room ≡ refuses (7 ∷ 0 ∷ n ∷ []) → ResponseTooLarge book asked cc code h n
+  response-is-too-large : writeResponse book asked cc code h room ≡ refuses (noArea (7 ∷ 0 ∷ n ∷ [])) → ResponseTooLarge book asked cc code h n
   unfolding writeResponse writeSuccess
   response-is-too-large e =
       let few = passed (leb (h .sessions .count) 3) _ _ (λ q. omega arith) e in
@@ -196,7 +196,7 @@ module _ (book : Rulebook) (asked : Bool) (cc code : ℕ) (h : Handed) (room n :
             ]
       ]
 
-  pub response-too-large : (writeResponse book asked cc code h room ≡ refuses (7 ∷ 0 ∷ n ∷ [])) ↔ ResponseTooLarge book asked cc code h n
+  pub response-too-large : (writeResponse book asked cc code h room ≡ refuses (noArea (7 ∷ 0 ∷ n ∷ []))) ↔ ResponseTooLarge book asked cc code h n
   unfolding writeSuccess
   response-too-large = (
     response-is-too-large,

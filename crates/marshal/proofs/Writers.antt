@@ -10,7 +10,7 @@ use borrow.Author.Tests.{le-leb, lt-leb, leb-true, eqb-true, eqb-false, eq-eqb, 
 use lib.Dec.{eqb, leb, ltb}
 use lib.ListN.{length, take, drop}
 use lib.Seq.{take-at}
-use Rattle.base.specs.Said.{Said, gives, refuses, needs, then, given}
+use Rattle.base.specs.Said.{Why, noArea, Said, gives, refuses, needs, then, given}
 use Rattle.base.proofs.Checks.{passes, fails, goes-on, stops, needs-gives, then-gives, cond-gives, gives-injective, gives≢refuses}
 use Rattle.rc.specs.Code.{readCode, readFmt0}
 use Rattle.rc.specs.Known.{isKnown, knownCodes}
@@ -103,13 +103,13 @@ judged-counted (gives total) t e = ap gives (sym (e total refl))
 judged-counted (refuses why) t e = refl
 
 -- two checks with one refusal
-either-fails : {A : Type 0} (a b : Bool) (why : List ℕ) (rest : Said A) → (a ≡ true → b ≡ false) → refuses why ≡ needs a why (needs b why rest)
+either-fails : {A : Type 0} (a b : Bool) (why : Why) (rest : Said A) → (a ≡ true → b ≡ false) → refuses why ≡ needs a why (needs b why rest)
 either-fails true b why rest f = fails b why rest (f refl)
 either-fails false b why rest f = refl
 
 -- ---- what the room is later
 
-pub room-refused : (room : List ℕ) (said : Said (List ℕ)) {why : List ℕ} → refuses why ≡ counted said → room ≡ roomAfter room said
+pub room-refused : (room : List ℕ) (said : Said (List ℕ)) {why : Why} → refuses why ≡ counted said → room ≡ roomAfter room said
 room-refused room (gives t) e = absurd (gives≢refuses (sym e))
 room-refused room (refuses why) e = refl
 
@@ -134,7 +134,7 @@ room-start room said e =
 -- ---- commands
 
 module _ (book : Rulebook) (tag code : ℕ) (h : Handed) (room : ℕ) where
-  pub wrong-tag : (tag ≡ tagFor (h .sessions .count) → ⊥) → refuses (3 ∷ 0 ∷ tag ∷ []) ≡ writeCommand book tag code h room
+  pub wrong-tag : (tag ≡ tagFor (h .sessions .count) → ⊥) → refuses (noArea (3 ∷ 0 ∷ tag ∷ [])) ≡ writeCommand book tag code h room
   unfolding writeCommand
   wrong-tag other =
       either-fails (isOfTwo tag) (Bool·beq (eqb tag sessions) (ltb 0 (h .sessions .count))) _ _ (tag-differs tag (h .sessions .count) other)
@@ -142,7 +142,7 @@ module _ (book : Rulebook) (tag code : ℕ) (h : Handed) (room : ℕ) where
   module _ (right : tag ≡ tagFor (h .sessions .count)) where
     abbrev behindTag : Said (List ℕ)
     behindTag =
-        needs (leb (h .sessions .count) 3) (6 ∷ 0 ∷ 3 ∷ h .sessions .count ∷ [])
+        needs (leb (h .sessions .count) 3) (noArea (6 ∷ 0 ∷ 3 ∷ h .sessions .count ∷ []))
         (then (rowFor (book .rows) code) λ row.
         then (judged (book .longest) 4 tag (row .handles) h room) λ total.
         gives (layoutCommand (commandFrame tag code h)))
@@ -153,7 +153,7 @@ module _ (book : Rulebook) (tag code : ℕ) (h : Handed) (room : ℕ) where
         passes (Bool·beq (eqb tag sessions) (ltb 0 (h .sessions .count))) _ behindTag (tag-agrees tag (h .sessions .count) right)
         ∙ passes (isOfTwo tag) _ _ (tag-two tag (h .sessions .count) right)
 
-    pub many-sessions : 3 < h .sessions .count → refuses (6 ∷ 0 ∷ 3 ∷ h .sessions .count ∷ []) ≡ writeCommand book tag code h room
+    pub many-sessions : 3 < h .sessions .count → refuses (noArea (6 ∷ 0 ∷ 3 ∷ h .sessions .count ∷ [])) ≡ writeCommand book tag code h room
     many-sessions many = fails (leb (h .sessions .count) 3) _ _ (lt-leb (h .sessions .count) 3 many) ∙ tag-passes
 
     module _ (few : h .sessions .count ≤ 3) where
@@ -161,7 +161,7 @@ module _ (book : Rulebook) (tag code : ℕ) (h : Handed) (room : ℕ) where
           ≡ writeCommand book tag code h room
       few-passes = passes (leb (h .sessions .count) 3) _ _ (le-leb (h .sessions .count) 3 few) ∙ tag-passes
 
-      pub no-row : {why : List ℕ} → refuses why ≡ rowFor (book .rows) code → refuses why ≡ writeCommand book tag code h room
+      pub no-row : {why : Why} → refuses why ≡ rowFor (book .rows) code → refuses why ≡ writeCommand book tag code h room
       no-row e = stops (rowFor (book .rows) code) _ e ∙ few-passes
 
       pub row-found : {row : Row} → gives row ≡ rowFor (book .rows) code
@@ -225,7 +225,7 @@ success-reads : given (readCode 0) ≡ true
 unfolding readCode readFmt0 isKnown knownCodes
 success-reads = refl
 
-counted-needs : (t : Bool) (why : List ℕ) (said : Said (List ℕ)) → needs t why (counted said) ≡ counted (needs t why said)
+counted-needs : (t : Bool) (why : Why) (said : Said (List ℕ)) → needs t why (counted said) ≡ counted (needs t why said)
 counted-needs true why said = refl
 counted-needs false why said = refl
 
@@ -254,7 +254,7 @@ module _ (code count room : ℕ) where
   unfolding writeError
   error-fits none = bare-fits false code room ∙ ap counted (passes (eqb count 0) _ _ (eq-eqb count 0 none))
 
-  pub error-sessions : (count ≡ 0 → ⊥) → refuses (3 ∷ 0 ∷ sessions ∷ []) ≡ counted (writeError code count room)
+  pub error-sessions : (count ≡ 0 → ⊥) → refuses (noArea (3 ∷ 0 ∷ sessions ∷ [])) ≡ counted (writeError code count room)
   unfolding writeError
   error-sessions some = ap counted (fails (eqb count 0) _ _ (ne-eqb count 0 some))
 
@@ -268,11 +268,11 @@ module _ (code count room : ℕ) where
   pub bad-tag-fits : code ≡ badTag → count ≡ 0 → fitted 10 room ≡ counted (writeBadTag code count room)
   bad-tag-fits is none = bare-fits true code room ∙ ap counted (bad-tag-alone is none)
 
-  pub bad-tag-sessions : (code ≡ 0 → ⊥) → (count ≡ 0 → ⊥) → refuses (3 ∷ 0 ∷ sessions ∷ []) ≡ counted (writeBadTag code count room)
+  pub bad-tag-sessions : (code ≡ 0 → ⊥) → (count ≡ 0 → ⊥) → refuses (noArea (3 ∷ 0 ∷ sessions ∷ [])) ≡ counted (writeBadTag code count room)
   unfolding writeBadTag
   bad-tag-sessions other some = ap counted (fails (eqb code 0 || eqb count 0) _ _ (rw (ne-eqb code 0 other, ne-eqb count 0 some) refl))
 
-  pub bad-tag-other : (eqb code 0 || eqb count 0) ≡ true → (code ≡ badTag → ⊥) → refuses (5 ∷ 0 ∷ code ∷ []) ≡ counted (writeBadTag code count room)
+  pub bad-tag-other : (eqb code 0 || eqb count 0) ≡ true → (code ≡ badTag → ⊥) → refuses (noArea (5 ∷ 0 ∷ code ∷ [])) ≡ counted (writeBadTag code count room)
   unfolding writeBadTag
   bad-tag-other alone other =
       ap counted (fails (eqb code badTag) _ _ (ne-eqb code badTag other) ∙ passes (eqb code 0 || eqb count 0) _ _ alone)
@@ -320,7 +320,7 @@ module _ (code count room : ℕ) where
   module _ (book : Rulebook) (responses : ℕ) (h : Handed) where
     abbrev behindRow : Bool → Said (List ℕ)
     behindRow asked =
-        needs (given (readCode code) || (asked && eqb code badTag)) (5 ∷ 0 ∷ code ∷ [])
+        needs (given (readCode code) || (asked && eqb code badTag)) (noArea (5 ∷ 0 ∷ code ∷ []))
         (cond asked (writeBadTag code count room) (cond (eqb code 0) (writeSuccess book responses h room) (writeError code count room)))
 
     behind-error : (asked : Bool) → Errs asked code → count ≡ 0 → 10 ≤ room → behindRow asked ≡ gives (layoutResponse (errorFrame asked code))
@@ -347,12 +347,12 @@ module _ (book : Rulebook) (asked : Bool) (cc code : ℕ) (h : Handed) (room : �
   abbrev writes : Said (List ℕ)
   writes = writeResponse book asked cc code h room
 
-  pub many-entries : 3 < h .sessions .count → refuses (6 ∷ 0 ∷ 3 ∷ h .sessions .count ∷ []) ≡ writes
+  pub many-entries : 3 < h .sessions .count → refuses (noArea (6 ∷ 0 ∷ 3 ∷ h .sessions .count ∷ [])) ≡ writes
   unfolding writeResponse
   many-entries many = fails (leb (h .sessions .count) 3) _ _ (lt-leb (h .sessions .count) 3 many)
 
   module _ (few : h .sessions .count ≤ 3) where
-    pub no-command : {why : List ℕ} → refuses why ≡ rowFor (book .rows) cc → refuses why ≡ writes
+    pub no-command : {why : Why} → refuses why ≡ rowFor (book .rows) cc → refuses why ≡ writes
     unfolding writeResponse
     no-command e = stops (rowFor (book .rows) cc) _ e ∙ passes (leb (h .sessions .count) 3) _ _ (le-leb (h .sessions .count) 3 few)
 
@@ -375,16 +375,16 @@ module _ (book : Rulebook) (asked : Bool) (cc code : ℕ) (h : Handed) (room : �
           ∙ ap counted (success-is not zero)
 
       pub error-judged : asked ≡ false → (code ≡ 0 → ⊥)
-          → needs (given (readCode code)) (5 ∷ 0 ∷ code ∷ []) (counted (writeError code (h .sessions .count) room)) ≡ counted writes
+          → needs (given (readCode code)) (noArea (5 ∷ 0 ∷ code ∷ [])) (counted (writeError code (h .sessions .count) room)) ≡ counted writes
       error-judged not other =
-          let is : needs (given (readCode code)) (5 ∷ 0 ∷ code ∷ []) (writeError code (h .sessions .count) room) ≡ writes =
+          let is : needs (given (readCode code)) (noArea (5 ∷ 0 ∷ code ∷ [])) (writeError code (h .sessions .count) room) ≡ writes =
           sym (rw (not, or-false (given (readCode code)), ne-eqb code 0 other) refl) ∙ row-passes in
           counted-needs (given (readCode code)) _ (writeError code (h .sessions .count) room) ∙ ap counted is
 
       pub bad-tag-judged : asked ≡ true
-          → needs (given (readCode code) || eqb code badTag) (5 ∷ 0 ∷ code ∷ []) (counted (writeBadTag code (h .sessions .count) room)) ≡ counted writes
+          → needs (given (readCode code) || eqb code badTag) (noArea (5 ∷ 0 ∷ code ∷ [])) (counted (writeBadTag code (h .sessions .count) room)) ≡ counted writes
       bad-tag-judged is =
-          let same : needs (given (readCode code) || eqb code badTag) (5 ∷ 0 ∷ code ∷ []) (writeBadTag code (h .sessions .count) room) ≡ writes =
+          let same : needs (given (readCode code) || eqb code badTag) (noArea (5 ∷ 0 ∷ code ∷ [])) (writeBadTag code (h .sessions .count) room) ≡ writes =
           sym (rw is refl) ∙ row-passes in
           counted-needs (given (readCode code) || eqb code badTag) _ (writeBadTag code (h .sessions .count) room) ∙ ap counted same
 

@@ -6,7 +6,7 @@ use mathlib.Core.Bool.{Bool, true, false, Bool·beq, _&&_, _||_, cond}
 use mathlib.Core.List.{List, [], _∷_, _++_}
 use lib.Dec.{eqb, leb, ltb}
 use lib.ListN.{length, drop}
-use Rattle.base.specs.Said.{Said, gives, needs, then, given, after}
+use Rattle.base.specs.Said.{noArea, Said, gives, needs, then, given, after}
 use Rattle.rc.specs.Code.{readCode}
 use Rattle.table.specs.Table.{rowFor}
 use Rattle.frame.specs.declared.session.Field.{Field}
@@ -24,8 +24,8 @@ capped n = cond (leb n 18446744073709551615) n 18446744073709551615
 -- a nonce or HMAC that is within a limit, and whose position plus length stays within so many lent bytes
 abbrev pub fieldThere : ℕ → ℕ → Field → Said (Unit {0})
 fieldThere limit len f =
-    needs (leb (f .size) limit) (8 ∷ 0 ∷ limit ∷ f .size ∷ [])
-    (needs (leb (f .at + f .size) len) (1 ∷ f .at ∷ f .size ∷ (len - f .at) ∷ [])
+    needs (leb (f .size) limit) (noArea (8 ∷ 0 ∷ limit ∷ f .size ∷ []))
+    (needs (leb (f .at + f .size) len) (noArea (1 ∷ f .at ∷ f .size ∷ (len - f .at) ∷ []))
     (gives tt))
 
 -- for nonces and HMACs of at most so many bytes
@@ -57,16 +57,16 @@ totalSize width tag h =
 
 -- the total, where there is room for it
 abbrev pub fitted : ℕ → ℕ → Said ℕ
-fitted total room = needs (leb total room) (9 ∷ 0 ∷ total ∷ room ∷ []) (gives total)
+fitted total room = needs (leb total room) (noArea (9 ∷ 0 ∷ total ∷ room ∷ [])) (gives total)
 
 -- from the handles on, for nonces and HMACs of at most so many bytes, entries with handles of so many bytes and a row of so many handles:
 -- the total
 unfoldable pub judged : ℕ → ℕ → ℕ → ℕ → Handed → ℕ → Said ℕ
 judged limit width tag handles h room =
-    needs (leb (4 * handles) (length (h .handles))) (1 ∷ 0 ∷ (4 * handles) ∷ length (h .handles) ∷ [])
-    (needs (leb (length (h .handles)) (4 * handles)) (2 ∷ (4 * handles) ∷ (length (h .handles) - 4 * handles) ∷ [])
+    needs (leb (4 * handles) (length (h .handles))) (noArea (1 ∷ 0 ∷ (4 * handles) ∷ length (h .handles) ∷ []))
+    (needs (leb (length (h .handles)) (4 * handles)) (noArea (2 ∷ (4 * handles) ∷ (length (h .handles) - 4 * handles) ∷ []))
     (then (sessionsThere limit (length (h .lent)) (entriesOf (h .sessions))) λ there.
-    needs (leb (totalSize width tag h) 4294967295) (7 ∷ 0 ∷ capped (totalSize width tag h) ∷ [])
+    needs (leb (totalSize width tag h) 4294967295) (noArea (7 ∷ 0 ∷ capped (totalSize width tag h) ∷ []))
     (fitted (totalSize width tag h) room)))
 
 -- a bare header
@@ -75,13 +75,13 @@ writeBare asked code room = then (fitted 10 room) λ total. gives (layoutRespons
 
 -- any other code, with so many sessions; all else is ignored
 unfoldable pub writeError : ℕ → ℕ → ℕ → Said (List ℕ)
-writeError code count room = needs (eqb count 0) (3 ∷ 0 ∷ sessions ∷ []) (writeBare false code room)
+writeError code count room = needs (eqb count 0) (noArea (3 ∷ 0 ∷ sessions ∷ [])) (writeBare false code room)
 
 -- with the tag of the answer to a bad tag asked for: no other code is written under it
 unfoldable pub writeBadTag : ℕ → ℕ → ℕ → Said (List ℕ)
 writeBadTag code count room =
-    needs (eqb code 0 || eqb count 0) (3 ∷ 0 ∷ sessions ∷ [])
-    (needs (eqb code badTag) (5 ∷ 0 ∷ code ∷ [])
+    needs (eqb code 0 || eqb count 0) (noArea (3 ∷ 0 ∷ sessions ∷ []))
+    (needs (eqb code badTag) (noArea (5 ∷ 0 ∷ code ∷ []))
     (writeBare true code room))
 
 module _ (book : Rulebook) where
@@ -93,9 +93,9 @@ module _ (book : Rulebook) where
 
   unfoldable pub writeCommand : ℕ → ℕ → Handed → ℕ → Said (List ℕ)
   writeCommand tag code h room =
-      needs (isOfTwo tag) (3 ∷ 0 ∷ tag ∷ [])
-      (needs (Bool·beq (eqb tag sessions) (ltb 0 (h .sessions .count))) (3 ∷ 0 ∷ tag ∷ [])
-      (needs (leb (h .sessions .count) 3) (6 ∷ 0 ∷ 3 ∷ h .sessions .count ∷ [])
+      needs (isOfTwo tag) (noArea (3 ∷ 0 ∷ tag ∷ []))
+      (needs (Bool·beq (eqb tag sessions) (ltb 0 (h .sessions .count))) (noArea (3 ∷ 0 ∷ tag ∷ []))
+      (needs (leb (h .sessions .count) 3) (noArea (6 ∷ 0 ∷ 3 ∷ h .sessions .count ∷ []))
       (then (rowFor (book .rows) code) λ row.
       then (judged (book .longest) 4 tag (row .handles) h room) λ total.
       gives (layoutCommand (commandFrame tag code h)))))
@@ -103,9 +103,9 @@ module _ (book : Rulebook) where
   -- a response of some code to the command of the code cc, with the tag of the answer to a bad tag asked for or not
   unfoldable pub writeResponse : Bool → ℕ → ℕ → Handed → ℕ → Said (List ℕ)
   writeResponse asked cc code h room =
-      needs (leb (h .sessions .count) 3) (6 ∷ 0 ∷ 3 ∷ h .sessions .count ∷ [])
+      needs (leb (h .sessions .count) 3) (noArea (6 ∷ 0 ∷ 3 ∷ h .sessions .count ∷ []))
       (then (rowFor (book .rows) cc) λ row.
-      needs (given (readCode code) || (asked && eqb code badTag)) (5 ∷ 0 ∷ code ∷ [])
+      needs (given (readCode code) || (asked && eqb code badTag)) (noArea (5 ∷ 0 ∷ code ∷ []))
       (cond asked (writeBadTag code (h .sessions .count) room)
       (cond (eqb code 0) (writeSuccess (row .responses) h room) (writeError code (h .sessions .count) room))))
 

@@ -21,6 +21,7 @@ use crate::total::too_many;
 use base::answer::Total;
 use base::code::TpmCc;
 use base::code::TpmSt;
+use base::error::Area;
 use frame::rules::Rules;
 use frame::rules::longest;
 use frame::session::Entries;
@@ -45,7 +46,7 @@ fn judge_command(
         if MAX_SESSIONS < sessions.count {
             return common(too_many(sessions.count));
         }
-        return match find(cc) {
+        return match find(Area::None, cc) {
             Found::Refused(e) => common(e),
             Found::Is(row) => {
                 let limit = longest(rules);
@@ -61,7 +62,7 @@ fn judge_command(
             }
         };
     }
-    common(tag.refused(0))
+    common(tag.refused(Area::None, 0))
 }
 
 // Lays out a command that was judged.

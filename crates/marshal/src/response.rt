@@ -5,7 +5,7 @@ ghost use mathlib.Core.List.{[], _∷_};
 ghost use lib.Dec.{eqb};
 ghost use lib.ListN.{length};
 ghost use Rattle.base.specs.Answer.{saidTotal};
-ghost use Rattle.base.specs.Said.{given, needs};
+ghost use Rattle.base.specs.Said.{given, needs, noArea};
 ghost use Rattle.rc.specs.Code.{readCode};
 ghost use Rattle.frame.specs.Header.{badTag};
 ghost use Rattle.frame.specs.Layout.{layoutResponse};
@@ -32,6 +32,7 @@ use base::answer::Total;
 use base::code::TpmCc;
 use base::code::TpmRc;
 use base::code::TpmSt;
+use base::error::Area;
 use frame::header::BAD_TAG;
 use frame::header::HEADER_SIZE;
 use frame::header::PLAIN;
@@ -47,39 +48,39 @@ use table::row::Found;
 
 // A code other than success, with so many sessions.
 fn judge_error(rc: TpmRc, count: usize, room: usize) -> Total
-    ensures { λ r. ⌜ saidTotal r ≡ needs (given (readCode (rc .0))) (5 ∷ 0 ∷ rc .0 ∷ []) (counted (writeError (rc .0) count room)) ⌝ }
+    ensures { λ r. ⌜ saidTotal r ≡ needs (given (readCode (rc .0))) (noArea (5 ∷ 0 ∷ rc .0 ∷ [])) (counted (writeError (rc .0) count room)) ⌝ }
 {
     match read(rc) {
-        Answer::Refused(_) => common(rc.refused(0)),
+        Answer::Refused(_) => common(rc.refused(Area::None, 0)),
         Answer::Code(_) => {
             if count == 0 {
                 return fits(HEADER_SIZE, room);
             }
-            common(TpmSt(SESSIONS).refused(0))
+            common(TpmSt(SESSIONS).refused(Area::None, 0))
         }
     }
 }
 
 // The same with the tag of the answer to a bad tag asked for, which no other code gets.
 fn judge_bad_tag(rc: TpmRc, count: usize, room: usize) -> Total
-    ensures { λ r. ⌜ saidTotal r ≡ needs (given (readCode (rc .0)) || eqb (rc .0) badTag) (5 ∷ 0 ∷ rc .0 ∷ []) (counted (writeBadTag (rc .0) count room)) ⌝ }
+    ensures { λ r. ⌜ saidTotal r ≡ needs (given (readCode (rc .0)) || eqb (rc .0) badTag) (noArea (5 ∷ 0 ∷ rc .0 ∷ [])) (counted (writeBadTag (rc .0) count room)) ⌝ }
 {
     if rc.0 == BAD_TAG {
         if count == 0 {
             return fits(HEADER_SIZE, room);
         }
-        return common(TpmSt(SESSIONS).refused(0));
+        return common(TpmSt(SESSIONS).refused(Area::None, 0));
     }
     if rc.0 == 0 {
-        return common(rc.refused(0));
+        return common(rc.refused(Area::None, 0));
     }
     match read(rc) {
-        Answer::Refused(_) => common(rc.refused(0)),
+        Answer::Refused(_) => common(rc.refused(Area::None, 0)),
         Answer::Code(_) => {
             if count == 0 {
-                return common(rc.refused(0));
+                return common(rc.refused(Area::None, 0));
             }
-            common(TpmSt(SESSIONS).refused(0))
+            common(TpmSt(SESSIONS).refused(Area::None, 0))
         }
     }
 }
@@ -111,7 +112,7 @@ fn judge_response(
     if MAX_SESSIONS < sessions.count {
         return common(too_many(sessions.count));
     }
-    match find(cc) {
+    match find(Area::None, cc) {
         Found::Refused(e) => common(e),
         Found::Is(row) => {
             if asks_bad_tag(rules) {

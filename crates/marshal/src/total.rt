@@ -6,7 +6,7 @@ ghost use mathlib.Core.Bool.{cond};
 ghost use lib.Dec.{eqb, leb};
 ghost use Rattle.base.specs.Answer.{saidCount, saidTotal};
 ghost use Rattle.base.specs.Error.{numbered};
-ghost use Rattle.base.specs.Said.{given, gives, refuses, then};
+ghost use Rattle.base.specs.Said.{given, gives, noArea, refuses, then};
 ghost use lib.ListN.{length};
 ghost use Rattle.frame.specs.Answer.{handleWidth};
 ghost use Rattle.frame.specs.Header.{sessions};
@@ -16,6 +16,7 @@ ghost use Rattle.marshal.specs.Looked.{saidLooked, whyNot};
 ghost use Rattle.marshal.specs.Write.{capped, entriesLength, entriesSaid, entryLength, fieldThere, fitted, judged, sessionThere, sessionsThere};
 use base::answer::Count;
 use base::answer::Total;
+use base::error::Area;
 use base::error::TpmError;
 use base::error::WriteError;
 use base::field::left;
@@ -58,9 +59,10 @@ fn size_field(tag: u16) -> usize
 
 // More than three sessions.
 pub(crate) fn too_many(count: usize) -> TpmError
-    ensures { λ r. ⌜ numbered r ≡ 6 ∷ 0 ∷ 3 ∷ count ∷ [] ⌝ }
+    ensures { λ r. ⌜ numbered r ≡ noArea (6 ∷ 0 ∷ 3 ∷ count ∷ []) ⌝ }
 {
     TpmError::TooManyItems {
+        area: Area::None,
         offset: 0,
         limit: MAX_SESSIONS,
         actual: count,
@@ -93,12 +95,14 @@ fn why_not(limit: usize, lent: usize, at: usize, size: usize) -> TpmError
 {
     if limit < size {
         return TpmError::TooManyBytes {
+            area: Area::None,
             offset: 0,
             limit,
             actual: size,
         };
     }
     TpmError::UnexpectedEnd {
+        area: Area::None,
         offset: at,
         needed: size,
         available: left(lent, at),
@@ -197,6 +201,7 @@ pub(crate) fn fits(total: usize, room: usize) -> Total
 {
     if room < total {
         return common(TpmError::BufferOverflow {
+            area: Area::None,
             offset: 0,
             needed: total,
             available: room,
@@ -221,6 +226,7 @@ pub(crate) fn judge(
     let needed = 4 * (count as usize);
     if handles < needed {
         return common(TpmError::UnexpectedEnd {
+            area: Area::None,
             offset: 0,
             needed,
             available: handles,
@@ -228,6 +234,7 @@ pub(crate) fn judge(
     }
     if needed < handles {
         return common(TpmError::TrailingData {
+            area: Area::None,
             offset: needed,
             actual: handles - needed,
         });

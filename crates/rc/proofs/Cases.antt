@@ -6,7 +6,7 @@ use mathlib.Core.List.{[], _∷_}
 use Prim.Native.Nat.{ℕ, _+_, _-_, _/_, _%_, _≤_, _<_}
 use native.Mathlib.Omega.{arith}
 use borrow.Author.Tests.{lt-ltb, le-ltb, eq-eqb, ne-eqb}
-use Rattle.base.specs.Said.{gives, refuses}
+use Rattle.base.specs.Said.{noArea, gives, refuses}
 use Rattle.rc.specs.declared.code.Code.the-variants.{Fmt0, Warn, Fmt1, Parameter, Handle, Session}
 use Rattle.rc.specs.Known.{isKnown}
 use Rattle.rc.specs.Code.{bit, base, readIndex, readFmt1, readFmt0, readCode}
@@ -20,7 +20,7 @@ module _ (value : ℕ) where
   unfolding readCode
   format-zero t = simp t
 
-  pub fmt0-unknown : isKnown value ≡ false → refuses (5 ∷ 0 ∷ value ∷ []) ≡ readFmt0 value
+  pub fmt0-unknown : isKnown value ≡ false → refuses (noArea (5 ∷ 0 ∷ value ∷ [])) ≡ readFmt0 value
   unfolding readFmt0
   fmt0-unknown k = simp k
 
@@ -29,11 +29,11 @@ module _ (value : ℕ) where
   unfolding readFmt0
   fmt0-known k t e = simp (k, e)
 
-  pub fmt1-high : 4096 ≤ value → refuses (5 ∷ 0 ∷ value ∷ []) ≡ readFmt1 value
+  pub fmt1-high : 4096 ≤ value → refuses (noArea (5 ∷ 0 ∷ value ∷ [])) ≡ readFmt1 value
   unfolding readFmt1
   fmt1-high h = simp (le-ltb value 4096 h)
 
-  pub fmt1-unknown : value < 4096 → isKnown (128 + value % 64) ≡ false → refuses (5 ∷ 0 ∷ value ∷ []) ≡ readFmt1 value
+  pub fmt1-unknown : value < 4096 → isKnown (128 + value % 64) ≡ false → refuses (noArea (5 ∷ 0 ∷ value ∷ [])) ≡ readFmt1 value
   unfolding readFmt1
   fmt1-unknown h k = simp (lt-ltb value 4096 h, k)
 
@@ -43,7 +43,7 @@ module _ (value : ℕ) where
   fmt1-open h k = simp (lt-ltb value 4096 h, k)
 
   module _ (b n : ℕ) where
-    pub parameter-none : value / 64 % 2 ≡ 1 → n ≡ 0 → refuses (5 ∷ 0 ∷ value ∷ []) ≡ readIndex value b (bit 64 value) n
+    pub parameter-none : value / 64 % 2 ≡ 1 → n ≡ 0 → refuses (noArea (5 ∷ 0 ∷ value ∷ [])) ≡ readIndex value b (bit 64 value) n
     unfolding readIndex
     parameter-none t z = simp (eq-eqb (value / 64 % 2) 1 t, le-ltb 0 n (omega arith))
 

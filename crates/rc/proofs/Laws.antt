@@ -10,8 +10,9 @@ use borrow.Author.Tests.{eqb-true, eqb-false, ltb-true, ltb-false, eq-eqb}
 use lib.Bits.{bitOr, or-block, or-zero-r, or-shifted-r}
 use lib.Dec.{eqb, ltb}
 use lib.Pow.{shr-shr}
-use Rattle.base.specs.Said.{Said, gives, refuses, needs}
+use Rattle.base.specs.Said.{Why, noArea, Said, gives, refuses, Only, needs}
 use Rattle.base.proofs.Checks.{needs-gives, cond-gives, gives-injective}
+use Rattle.base.proofs.Only.{by-gives, by-needs, by-cond}
 use Rattle.rc.specs.declared.code.Code.{Code}
 use Rattle.rc.specs.declared.code.Code.the-variants.{Fmt0, Warn, Fmt1, Parameter, Handle, Session}
 use Rattle.rc.specs.Known.{isKnown}
@@ -144,32 +145,25 @@ complete (Session b n) w =
 pub reads-exactly : (value : ℕ) (c : Code) → (readCode value ≡ gives c) ↔ (WellFormed c × (valueOf c ≡ value))
 reads-exactly value c = (sound value c, λ r. subst (λ (v : ℕ). readCode v ≡ gives c) (r .1) (complete c (r .0)))
 
--- every refusal is 5(0,value)
-abbrev OnlyFive : ℕ → Said Code → Type 0
-OnlyFive value (gives c) = Unit {0}
-OnlyFive value (refuses why) = why ≡ 5 ∷ 0 ∷ value ∷ []
+-- every refusal is 5(0,value), in no area
+abbrev pub Five : ℕ → Why → Type 0
+Five value why = why ≡ noArea (5 ∷ 0 ∷ value ∷ [])
 
 module _ (value : ℕ) where
-  five-needs : (t : Bool) (rest : Said Code) → OnlyFive value rest → OnlyFive value (needs t (5 ∷ 0 ∷ value ∷ []) rest)
-  five-needs true rest h = h
-  five-needs false rest h = refl
-
-  five-cond : (t : Bool) (x y : Said Code) → OnlyFive value x → OnlyFive value y → OnlyFive value (cond t x y)
-  five-cond true x y h k = h
-  five-cond false x y h k = k
-
-  five-index : (b : ℕ) (p : Bool) (n : ℕ) → OnlyFive value (readIndex value b p n)
+  five-index : (b : ℕ) (p : Bool) (n : ℕ) → Only (Five value) (readIndex value b p n)
   unfolding readIndex
-  five-index b p n = five-cond p _ _ (five-needs (ltb 0 n) _ tt) (five-cond (eqb n 0) _ _ tt (five-cond (ltb n 8) _ _ tt tt))
+  five-index b p n =
+      by-cond p (by-needs (ltb 0 n) _ refl by-gives)
+      (by-cond (eqb n 0) by-gives
+      (by-cond (ltb n 8) by-gives by-gives))
 
-  only-five : OnlyFive value (readCode value)
+  pub only-five : Only (Five value) (readCode value)
   unfolding readCode readFmt1 readFmt0
   only-five =
-      five-cond (bit 128 value) _ _ (five-needs (ltb value 4096) _ (five-needs (isKnown (128 + value % 64)) _ (five-index (128 + value % 64) (bit 64 value) (value / 256 % 16))))
-      (five-needs (isKnown value) _ tt)
-
-  pub refusals : (why : List ℕ) → readCode value ≡ refuses why → why ≡ 5 ∷ 0 ∷ value ∷ []
-  refusals why e = subst (OnlyFive value) e only-five
+      by-cond (bit 128 value)
+      (by-needs (ltb value 4096) _ refl
+      (by-needs (isKnown (128 + value % 64)) _ refl (five-index (128 + value % 64) (bit 64 value) (value / 256 % 16))))
+      (by-needs (isKnown value) _ refl by-gives)
 
 -- two well-formed codes of one value are one
 pub one-reading : (c d : Code) → WellFormed c → WellFormed d → valueOf c ≡ valueOf d → c ≡ d

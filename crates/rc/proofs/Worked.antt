@@ -3,7 +3,7 @@
 use mathlib.Core.Path.{_≡_, refl}
 use mathlib.Core.List.{[], _∷_}
 use Prim.Native.Nat.{ℕ}
-use Rattle.base.specs.Said.{gives, refuses}
+use Rattle.base.specs.Said.{noArea, gives, refuses}
 use Rattle.rc.specs.declared.code.Code.the-variants.{Parameter, Handle, Session}
 use Rattle.rc.specs.Known.{knownCodes, isKnown}
 use Rattle.rc.specs.Code.{base, readIndex, readFmt1, readFmt0, readCode, valueOf}
@@ -16,7 +16,7 @@ unfolding readCode readFmt1 readFmt0 readIndex isKnown knownCodes
 codes-of-84 = (refl, refl, refl)
 
 -- codes 0C4, 10C4: refused
-pub codes-refused : (readCode 0xC4 ≡ refuses (5 ∷ 0 ∷ 0xC4 ∷ [])) × (readCode 0x10C4 ≡ refuses (5 ∷ 0 ∷ 0x10C4 ∷ []))
+pub codes-refused : (readCode 0xC4 ≡ refuses (noArea (5 ∷ 0 ∷ 0xC4 ∷ []))) × (readCode 0x10C4 ≡ refuses (noArea (5 ∷ 0 ∷ 0x10C4 ∷ [])))
 unfolding readCode readFmt1 readFmt0 readIndex isKnown knownCodes
 codes-refused = (refl, refl)
 

@@ -6,7 +6,7 @@ use mathlib.Core.List.{[], _∷_}
 use lib.Bits.{bitOr}
 use lib.Dec.{eqb, ltb}
 use Rattle.base.specs.Error.{numbered}
-use Rattle.base.specs.Said.{Said, gives, refuses, needs}
+use Rattle.base.specs.Said.{noArea, Said, gives, refuses, needs}
 use Rattle.rc.specs.declared.code.TpmRcBase.{TpmRcBase}
 use Rattle.rc.specs.declared.code.Code.{Code}
 use Rattle.rc.specs.declared.code.Code.the-variants.{Fmt0, Warn, Fmt1, Parameter, Handle, Session}
@@ -27,21 +27,21 @@ base b = record { 0 = b }
 unfoldable pub readIndex : ℕ → ℕ → Bool → ℕ → Said Code
 readIndex value b p n =
     cond p
-    (needs (ltb 0 n) (5 ∷ 0 ∷ value ∷ []) (gives (Parameter (base b) n)))
+    (needs (ltb 0 n) (noArea (5 ∷ 0 ∷ value ∷ [])) (gives (Parameter (base b) n)))
     (cond (eqb n 0) (gives (Fmt1 (base b)))
     (cond (ltb n 8) (gives (Handle (base b) n))
     (gives (Session (base b) (n - 8)))))
 
 unfoldable pub readFmt1 : ℕ → Said Code
 readFmt1 value =
-    needs (ltb value 4096) (5 ∷ 0 ∷ value ∷ [])
-    (needs (isKnown (128 + value % 64)) (5 ∷ 0 ∷ value ∷ [])
+    needs (ltb value 4096) (noArea (5 ∷ 0 ∷ value ∷ []))
+    (needs (isKnown (128 + value % 64)) (noArea (5 ∷ 0 ∷ value ∷ []))
     (readIndex value (128 + value % 64) (bit 64 value) (value / 256 % 16)))
 
 -- format zero: the whole value is the base code; bits 8 and 11 both set make it a warning
 unfoldable pub readFmt0 : ℕ → Said Code
 readFmt0 value =
-    needs (isKnown value) (5 ∷ 0 ∷ value ∷ [])
+    needs (isKnown value) (noArea (5 ∷ 0 ∷ value ∷ []))
     (gives (cond (bit 256 value && bit 2048 value) (Warn (base value)) (Fmt0 (base value))))
 
 unfoldable pub readCode : ℕ → Said Code

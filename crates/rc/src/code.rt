@@ -5,6 +5,7 @@ ghost use Prim.Native.Nat.{_*_, _%_};
 ghost use Rattle.rc.specs.Code.{baseOf, bit, indexOf, kindNumber, kindOf, ofParts, readCode, readFmt1, saidCode, valueOf};
 use crate::known::base_known;
 use base::code::TpmRc;
+use base::error::Area;
 use base::error::TpmError;
 
 // A base code. Reading gives known ones alone.
@@ -45,7 +46,7 @@ pub fn read(rc: TpmRc) -> Answer
         return read_fmt1(rc);
     }
     if !base_known(value) {
-        return Answer::Refused(rc.refused(0));
+        return Answer::Refused(rc.refused(Area::None, 0));
     }
     if is_warning(value) {
         Answer::Code(Code::Warn(TpmRcBase(value)))
@@ -74,16 +75,16 @@ fn read_fmt1(rc: TpmRc) -> Answer
 {
     let value = rc.0;
     if value >= 4096 {
-        return Answer::Refused(rc.refused(0));
+        return Answer::Refused(rc.refused(Area::None, 0));
     }
     let base = 128 + value % 64;
     if !base_known(base) {
-        return Answer::Refused(rc.refused(0));
+        return Answer::Refused(rc.refused(Area::None, 0));
     }
     let n = (value / 256 % 16) as u8;
     if value / 64 % 2 == 1 {
         if n == 0 {
-            return Answer::Refused(rc.refused(0));
+            return Answer::Refused(rc.refused(Area::None, 0));
         }
         return Answer::Code(Code::Parameter(TpmRcBase(base), n));
     }

@@ -18,7 +18,7 @@ use contract.Monad.{Fun}
 use denote.Ref.{now}
 use Rattle.base.specs.declared.answer.Total.{Total}
 use Rattle.base.specs.Answer.{saidTotal}
-use Rattle.base.specs.Said.{Said, refuses}
+use Rattle.base.specs.Said.{noArea, Said, refuses}
 use Rattle.base.proofs.Facts.{PromisedBy, from-two}
 use Rattle.frame.specs.Header.{sessions}
 use Rattle.frame.specs.Parts.{entriesOf}
@@ -43,11 +43,11 @@ module _ (book : Rulebook) (handles lent parameters : List ℕ) (room : ℕ) whe
 
   module _ (ss : List Session) (many : 3 < length ss) where
     -- under the tag of sessions: the other tag, and every other number, is refused by itself before
-    pub command-many : (code : ℕ) → writeCommand book sessions code (with (byValue ss)) room ≡ refuses (6 ∷ 0 ∷ 3 ∷ length ss ∷ [])
+    pub command-many : (code : ℕ) → writeCommand book sessions code (with (byValue ss)) room ≡ refuses (noArea (6 ∷ 0 ∷ 3 ∷ length ss ∷ []))
     unfolding writeCommand
     command-many code = rw (lt-ltb 0 (length ss) (omega arith), lt-leb (length ss) 3 many) refl
 
-    pub response-many : (asks : Bool) (cc code : ℕ) → writeResponse book asks cc code (with (byValue ss)) room ≡ refuses (6 ∷ 0 ∷ 3 ∷ length ss ∷ [])
+    pub response-many : (asks : Bool) (cc code : ℕ) → writeResponse book asks cc code (with (byValue ss)) room ≡ refuses (noArea (6 ∷ 0 ∷ 3 ∷ length ss ∷ []))
     unfolding writeResponse
     response-many asks cc code = rw (lt-leb (length ss) 3 many) refl
 
@@ -84,13 +84,13 @@ module _ (book : Rulebook) (handles lent parameters : List ℕ) (room : ℕ) whe
 -- records e, and Tagged that the tag is the one for sessions, of which a response says nothing.
 pub record Takes (of : Entries → Said (List ℕ)) (ss : List Session) (Tagged : Type 0) (old : List ℕ) (x : Total) (new : List ℕ) : Type 0 where
   -- more than three are refused by their number, and the room is as it was
-  pub many : Tagged → 3 < length ss → Refused old x new (6 ∷ 0 ∷ 3 ∷ length ss ∷ [])
+  pub many : Tagged → 3 < length ss → Refused old x new (noArea (6 ∷ 0 ∷ 3 ∷ length ss ∷ []))
   -- at most three get the answer and the bytes that they get by value
   pub few : (e : Entries) → e .count ≤ 3 → entriesOf e ≡ ss → (saidTotal x ≡ counted (of e)) × (new ≡ roomAfter old (of e))
 
 module _ (of : Entries → Said (List ℕ)) (ss : List Session) (Tagged : Type 0) (old : List ℕ) (x : Total) (new : List ℕ)
     (answer : saidTotal x ≡ counted (of (byValue ss))) (bytes : new ≡ roomAfter old (of (byValue ss))) where
-  takes : (Tagged → 3 < length ss → of (byValue ss) ≡ refuses (6 ∷ 0 ∷ 3 ∷ length ss ∷ []))
+  takes : (Tagged → 3 < length ss → of (byValue ss) ≡ refuses (noArea (6 ∷ 0 ∷ 3 ∷ length ss ∷ [])))
       → ((e : Entries) → e .count ≤ 3 → entriesOf e ≡ ss → of (byValue ss) ≡ of e) → Takes of ss Tagged old x new
   takes refused same = record {
     many = λ tagged more. is-refused old x new (of (byValue ss)) answer bytes (refused tagged more);

@@ -1,5 +1,5 @@
 pub mod Answers
-pub mod Never
+pub mod Only
 pub mod Rows
 pub mod Single
 pub mod Table

@@ -13,7 +13,7 @@ use lib.Dec.{eqb, leb}
 use lib.ListN.{length, getD, drop}
 use lib.Seq.{getD-take, getD-drop}
 use Rattle.base.specs.Members.{isIn}
-use Rattle.base.specs.Said.{Said, gives, refuses, given}
+use Rattle.base.specs.Said.{noArea, Said, gives, refuses, given}
 use Rattle.base.proofs.Checks.{gives≢refuses, gives-injective, cond-gives}
 use Rattle.table.specs.declared.row.Row.{Row}
 use Rattle.table.specs.Table.{rowFor, codes, belowFirst, rising, few, part, none}
@@ -74,7 +74,7 @@ row-here rows e i h read t = ap gives read ∙ row-at rows e i h ∙ ap (rowFor 
 
 -- a code that stands at no place is refused
 pub no-row : (rows : List Row) (code : ℕ) → ((k : ℕ) → k < length rows → code ≡ codeAt rows k → ⊥)
-    → refuses (4 ∷ 0 ∷ code ∷ []) ≡ rowFor rows code
+    → refuses (noArea (4 ∷ 0 ∷ code ∷ [])) ≡ rowFor rows code
 no-row [] code h = refl
 no-row (r ∷ rows) code h =
     simp (ne-eqb code (r .code) (h 0 (suc-le-suc zero-le))) (no-row rows code (λ k l. h (suc k) (suc-le-suc l)))
@@ -95,7 +95,7 @@ between-all rows code = record {
 
 module _ {rows : List Row} {code lo hi : ℕ} (b : Between rows code lo hi) where
   -- the ends have met
-  pub between-none : hi ≤ lo → refuses (4 ∷ 0 ∷ code ∷ []) ≡ rowFor rows code
+  pub between-none : hi ≤ lo → refuses (noArea (4 ∷ 0 ∷ code ∷ [])) ≡ rowFor rows code
   between-none h =
       no-row rows code (λ k l e.
       let past = lt-of-not-le (λ (s : k < lo). let low = b .before k s in omega arith) in

@@ -7,7 +7,7 @@ use mathlib.Core.List.{List, [], _∷_}
 use lib.Dec.{eqb, leb, ltb}
 use lib.ListN.{take, drop}
 use Rattle.base.specs.Error.{numbered}
-use Rattle.base.specs.Said.{Said, gives, refuses}
+use Rattle.base.specs.Said.{noArea, Said, gives, refuses}
 use Rattle.table.specs.declared.row.Row.{Row}
 use Rattle.table.specs.declared.row.Found.{Found}
 use Rattle.table.specs.declared.row.Found.the-variants as found
@@ -17,7 +17,7 @@ row code handles responses = record { code = code; handles = handles; responses 
 
 -- the row of a code; a code without one is refused, 4(0,code)
 abbrev pub rowFor : List Row → ℕ → Said Row
-rowFor [] code = refuses (4 ∷ 0 ∷ code ∷ [])
+rowFor [] code = refuses (noArea (4 ∷ 0 ∷ code ∷ []))
 rowFor (r ∷ rows) code = cond (eqb code (r .code)) (gives r) (rowFor rows code)
 
 abbrev pub codes : List Row → List ℕ

@@ -2,7 +2,8 @@
 -- Assumes nothing: these are definitions.
 use Prim.Native.Nat.{ℕ}
 use mathlib.Core.List.{List, [], _∷_}
-use Rattle.base.specs.Said.{Said, gives, refuses}
+use Rattle.base.specs.declared.error.Area.the-variants.{Header}
+use Rattle.base.specs.Said.{inArea, Said, gives, refuses}
 
 abbrev pub held : {A : Type 0} → Said A → List ℕ → List ℕ
 held (gives a) s = s
@@ -10,4 +11,4 @@ held (refuses why) s = []
 
 -- what a read of a header says of no bytes
 abbrev pub short : {A : Type 0} → Said A
-short = refuses (1 ∷ 0 ∷ 10 ∷ 0 ∷ [])
+short = refuses (inArea Header (1 ∷ 0 ∷ 10 ∷ 0 ∷ []))

@@ -106,6 +106,7 @@ fn copied(bytes: &mut [u8], place: usize, count: usize, out: &mut [u64; 8]) -> T
         Outcome::Done => wrote(0, 0),
         Outcome::Refused(e) => match e {
             TpmError::BufferOverflow {
+                area,
                 offset,
                 needed,
                 available,
@@ -113,6 +114,7 @@ fn copied(bytes: &mut [u8], place: usize, count: usize, out: &mut [u64; 8]) -> T
                 out[4] = offset as u64;
                 out[5] = needed as u64;
                 out[6] = available as u64;
+                out[7] = area.number() as u64;
                 wrote(0, 9)
             }
             _ => unknown(),

@@ -1,5 +1,6 @@
 // Runs the calls that standard input lists, one to a line, and writes each line again with its answer behind it:
-// the refusal's number (0: an answer) and the numbers reported, and for a write the bytes as they are later.
+// the refusal's number (0: an answer), the numbers reported and a refusal's area, and for a write the bytes as they are
+// later.
 // A line is CALL BYTES NUMBER NUMBER, at most 4,096 bytes in hex and numbers in decimal, `-` for none: a place, a
 // capacity, a size, a tag, a code, a session's handle or how much room, then what is to be written. The word `standard`
 // behind them names the standard reading. The calls on the nonce keeper (document 02, W8) have one keeper, empty at first

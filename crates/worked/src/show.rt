@@ -27,7 +27,29 @@ fn numbers(s: &[u64], most: usize) {
     }
 }
 
-// What a call returned and reported, and the bytes that it left. A refusal has its own fields, at their own places.
+// The area of a refusal, by the number that stands for it.
+fn area(number: u64) {
+    if number == 1 {
+        io::write_all(1, b" header");
+        return;
+    }
+    if number == 2 {
+        io::write_all(1, b" handles");
+        return;
+    }
+    if number == 3 {
+        io::write_all(1, b" authorization");
+        return;
+    }
+    if number == 4 {
+        io::write_all(1, b" parameters");
+        return;
+    }
+    io::write_all(1, b" none");
+}
+
+// What a call returned and reported, and the bytes that it left. A refusal has its own fields, at their own places, and
+// then its area.
 pub(crate) fn answer(told: Told, out: [u64; 8], later: &[u8]) {
     io::write_all(1, b" = ");
     io::print_decimal(1, told.number as u64);
@@ -35,6 +57,7 @@ pub(crate) fn answer(told: Told, out: [u64; 8], later: &[u8]) {
         numbers(&out, told.count);
     } else {
         numbers(&out[4..], fields(told.number));
+        area(out[7]);
     }
     if told.writes {
         io::write_all(1, b" ; ");

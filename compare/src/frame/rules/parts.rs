@@ -8,13 +8,13 @@ use crate::calls::{Field, Parts, Session, Sessions, Span};
 fn tpm2b(s: &[u8], at: usize, longest: usize) -> Read<usize> {
     let left = s.len() - at;
     if left < 2 {
-        return Err(ends(at, 2, left));
+        return Err(ends(Area::Authorization, at, 2, left));
     }
     let size = number(s, at, 2);
     if size > longest {
-        return Err(Refusal(8, [at, longest, size]));
+        return Err(Refusal(Area::Authorization, 8, [at, longest, size]));
     }
-    if left < 2 + size { Err(ends(at, 2 + size, left)) } else { Ok(size) }
+    if left < 2 + size { Err(ends(Area::Authorization, at, 2 + size, left)) } else { Ok(size) }
 }
 
 /// The entries from a place to the end of `s`.
@@ -23,19 +23,19 @@ fn walk(reading: Reading, s: &[u8], from: usize, command: bool) -> Read<Sessions
     let (mut sessions, mut at) = (Sessions::default(), from);
     while at < s.len() {
         if sessions.count == 3 {
-            return Err(Refusal(6, [at, 3, 4]));
+            return Err(Refusal(Area::Authorization, 6, [at, 3, 4]));
         }
         let mut handle = 0;
         if command {
             if s.len() - at < 4 {
-                return Err(ends(at, 4, s.len() - at));
+                return Err(ends(Area::Authorization, at, 4, s.len() - at));
             }
             handle = number(s, at, 4);
             at += 4;
         }
         let nonce = (at + 2, tpm2b(s, at, longest)?);
         let attributes = nonce.0 + nonce.1;
-        let byte = *s.get(attributes).ok_or(ends(attributes, 1, 0))?;
+        let byte = *s.get(attributes).ok_or(ends(Area::Authorization, attributes, 1, 0))?;
         let hmac = (attributes + 3, tpm2b(s, attributes + 1, longest)?);
         let [nonce, hmac] = [nonce, hmac].map(|(at, size)| Field { at, size: size as u16 });
         sessions.three[sessions.count] = Session { handle: handle as u32, nonce, attributes: byte, hmac };
@@ -61,16 +61,17 @@ fn command_read(by: u32, s: &[u8]) -> Read<calls::Frame> {
 /// The answer to a bad tag is an error response, whatever the command that has a row.
 fn response_read(by: u32, cc: u32, s: &[u8]) -> Read<calls::Frame> {
     response_judged(by, s, whole)?;
-    let row = row_of(cc)?;
+    let row = row_of(Area::Header, cc)?;
     if code_field(s) != 0 {
         return match (tag_field(s), s.len()) {
-            (SESSIONS, _) => Err(refusal(3, 0, SESSIONS)),
+            (SESSIONS, _) => Err(refusal(Area::Header, 3, 0, SESSIONS)),
             (_, HEADER) => Ok(parts(s, [(HEADER, HEADER); 3], Sessions::default())),
-            (_, longer) => Err(refusal(2, HEADER, longer - HEADER)),
+            (_, longer) => Err(refusal(Area::Header, 2, HEADER, longer - HEADER)),
         };
     }
     let handles = handles_end(s, row.responses)?;
-    let (from, to) = if tag_field(s) == SESSIONS { sized(s, handles)? } else { (handles, s.len()) };
+    let sessions_tag = tag_field(s) == SESSIONS;
+    let (from, to) = if sessions_tag { sized(Area::Parameters, s, handles)? } else { (handles, s.len()) };
     let sessions = walk(reading(by)?, s, to, false)?;
     Ok(parts(s, [(HEADER, handles), (to, s.len()), (from, to)], sessions))
 }

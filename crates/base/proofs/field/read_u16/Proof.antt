@@ -16,7 +16,7 @@ left-requires c κs = search needs
 returns : tie.Need-returns
 returns c =
     let a = c .before .before .before .args in
-    read-short 2 (a .place) (now (a .s)) _ (c .before .left .ensures) (c .if1 .taken)
+    read-short 2 (a .place) (now (a .s)) (a .area) _ (c .before .left .ensures) (c .if1 .taken)
 
 shared-slice-read-be16 : tie.Need-shared-slice-read-be16
 shared-slice-read-be16 c = search needs
@@ -33,7 +33,7 @@ be16-requires c κs = search needs
 returns-2 : tie.Need-returns-2
 returns-2 c =
     let a = c .before .before .before .before .before .before .args in
-    ap gives (c .be16 .ensures) ∙ simp towards-suc (read-whole 2 (a .place) (now (a .s)) (omega arith))
+    ap gives (c .be16 .ensures) ∙ simp towards-suc (read-whole 2 (a .place) (now (a .s)) (a .area) (omega arith))
 
 pub read-u16-spec : {M : Type 1} → statement M
 read-u16-spec =

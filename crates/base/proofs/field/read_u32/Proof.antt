@@ -16,7 +16,7 @@ left-requires c κs = search needs
 returns : tie.Need-returns
 returns c =
     let a = c .before .before .before .args in
-    read-short 4 (a .place) (now (a .s)) _ (c .before .left .ensures) (c .if1 .taken)
+    read-short 4 (a .place) (now (a .s)) (a .area) _ (c .before .left .ensures) (c .if1 .taken)
 
 shared-slice-read-be32 : tie.Need-shared-slice-read-be32
 shared-slice-read-be32 c = search needs
@@ -45,7 +45,7 @@ be32-requires c κs = search needs
 returns-2 : tie.Need-returns-2
 returns-2 c =
     let a = c .before .before .before .before .before .before .before .before .args in
-    ap gives (c .be32 .ensures) ∙ simp towards-suc (read-whole 4 (a .place) (now (a .s)) (omega arith))
+    ap gives (c .be32 .ensures) ∙ simp towards-suc (read-whole 4 (a .place) (now (a .s)) (a .area) (omega arith))
 
 pub read-u32-spec : {M : Type 1} → statement M
 read-u32-spec =

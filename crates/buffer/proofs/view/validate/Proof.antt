@@ -18,8 +18,8 @@ enum-known-read c = search needs
 enum-known-read-2 : tie.Need-enum-known-read-2
 enum-known-read-2 c = search needs
 
-sub-t11 : tie.Need-sub-t11
-sub-t11 c = search needs
+sub-t12 : tie.Need-sub-t12
+sub-t12 c = search needs
 
 returns : tie.Need-returns
 returns c = ap done (whole-refused _ _ (learnt saidCount (c .before .read .given .1) (c .before .before .before .validate-prefix .ensures)))
@@ -37,7 +37,7 @@ validate-spec =
     validate-prefix-requires
     enum-known-read
     enum-known-read-2
-    sub-t11
+    sub-t12
     returns
     returns-2
     returns-3)

@@ -26,14 +26,14 @@ returns-2 c = too-many _ _ _ (learnt saidCount (c .before .before .read .given .
 sub-if2 : tie.Need-sub-if2
 sub-if2 c = sized _ (learnt saidCount (c .before .before .read .given .1) (c .before .before .before .before .size .ensures))
 
-sub-t10 : tie.Need-sub-t10
-sub-t10 c = sized _ (learnt saidCount (c .before .before .before .read .given .1) (c .before .before .before .before .before .size .ensures))
+sub-t12 : tie.Need-sub-t12
+sub-t12 c = sized _ (learnt saidCount (c .before .before .before .read .given .1) (c .before .before .before .before .before .size .ensures))
 
 returns-3 : tie.Need-returns-3
 returns-3 c = too-short _ _ _ (learnt saidCount (c .before .before .before .read .given .1) (c .before .before .before .before .before .size .ensures)) (c .before .if1 .left) (c .if2 .taken)
 
-add-t7 : tie.Need-add-t7
-add-t7 c = search needs
+add-t8 : tie.Need-add-t8
+add-t8 c = search needs
 
 returns-4 : tie.Need-returns-4
 returns-4 c = prefix-read _ _ _ (learnt saidCount (c .before .before .before .read .given .1) (c .before .before .before .before .before .size .ensures)) (c .before .if1 .left) (c .if2 .left)
@@ -48,7 +48,7 @@ validate-prefix-spec =
     returns
     returns-2
     sub-if2
-    sub-t10
+    sub-t12
     returns-3
-    add-t7
+    add-t8
     returns-4)

@@ -27,8 +27,8 @@ value-of-requires-5 c κs = search needs
 value-of-requires-6 : tie.Need-value-of-requires-6
 value-of-requires-6 c κs = search needs
 
-two-requires : tie.Need-two-requires
-two-requires c κs = search needs
+unnamed-requires : tie.Need-unnamed-requires
+unnamed-requires c κs = search needs
 
 returns : tie.Need-returns
 unfolding kindNumbered
@@ -66,7 +66,7 @@ returns-7 c =
       ne-eqb _ 4 (others .0 .1),
       ne-eqb _ 5 (others .1),
     )
-    (refused value _ _ _ _ _ refl (c .two .ensures))
+    (refused value _ _ _ _ _ refl (c .unnamed .ensures))
 
 pub skein-rc-value-spec : {M : Type 1} → statement M
 skein-rc-value-spec =
@@ -78,7 +78,7 @@ skein-rc-value-spec =
     value-of-requires-4
     value-of-requires-5
     value-of-requires-6
-    two-requires
+    unnamed-requires
     returns
     returns-2
     returns-3

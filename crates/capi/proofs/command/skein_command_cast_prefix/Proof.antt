@@ -13,11 +13,8 @@ rules-named-requires c κs = search needs
 enum-known-n : tie.Need-enum-known-n
 enum-known-n c = search needs
 
-cast-two : tie.Need-cast-two
-cast-two c = search needs
-
-two-requires : tie.Need-two-requires
-two-requires c κs = search needs
+unnamed-requires : tie.Need-unnamed-requires
+unnamed-requires c κs = search needs
 
 enum-known-by : tie.Need-enum-known-by
 enum-known-by c = search needs
@@ -29,7 +26,7 @@ with-tail-requires : tie.Need-with-tail-requires
 with-tail-requires c κs = search needs
 
 returns : tie.Need-returns
-returns c = not-named _ (rulesNumbered _) _ (learnt saidRules (c .before .before .before .n .given .1) (c .before .before .before .before .before .rules-named .ensures)) (c .two .ensures)
+returns c = not-named _ (rulesNumbered _) _ (learnt saidRules (c .before .before .before .n .given .1) (c .before .before .before .before .before .rules-named .ensures)) (c .unnamed .ensures)
 
 returns-2 : tie.Need-returns-2
 returns-2 c = as-named _ (rulesNumbered _) _ (learnt saidRules (c .before .before .before .before .by .given .1) (c .before .before .before .before .before .before .rules-named .ensures)) (c .before .before .cast-prefix-range .ensures) (c .with-tail .ensures)
@@ -40,8 +37,7 @@ skein-command-cast-prefix-spec =
     (tie.spec
     rules-named-requires
     enum-known-n
-    cast-two
-    two-requires
+    unnamed-requires
     enum-known-by
     cast-prefix-range-requires
     with-tail-requires

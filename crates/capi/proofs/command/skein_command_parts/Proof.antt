@@ -20,11 +20,8 @@ rules-named-requires c κs = search needs
 enum-known-n : tie.Need-enum-known-n
 enum-known-n c = search needs
 
-cast-two : tie.Need-cast-two
-cast-two c = search needs
-
-two-requires : tie.Need-two-requires
-two-requires c κs = search needs
+unnamed-requires : tie.Need-unnamed-requires
+unnamed-requires c κs = search needs
 
 no-command-requires : tie.Need-no-command-requires
 no-command-requires c κs = search needs
@@ -50,7 +47,7 @@ enum-known-command c = search needs
 returns : tie.Need-returns
 returns c =
     let unknown = learnt saidRules (c .before .before .before .before .n .given .1) (c .before .before .before .before .before .before .rules-named .ensures) in
-    (not-named none (rulesNumbered _) _ unknown (c .before .two .ensures), c .no-command .ensures ∙ ap (after noCommand) (stops (rulesNumbered _) _ unknown))
+    (not-named none (rulesNumbered _) _ unknown (c .before .unnamed .ensures), c .no-command .ensures ∙ ap (after noCommand) (stops (rulesNumbered _) _ unknown))
 
 returns-2 : tie.Need-returns-2
 returns-2 c =
@@ -70,8 +67,7 @@ skein-command-parts-spec =
     (tie.spec
     rules-named-requires
     enum-known-n
-    cast-two
-    two-requires
+    unnamed-requires
     no-command-requires
     enum-known-by
     parts-requires

@@ -18,11 +18,8 @@ rules-named-requires c κs = search needs
 enum-known-n : tie.Need-enum-known-n
 enum-known-n c = search needs
 
-cast-two : tie.Need-cast-two
-cast-two c = search needs
-
-two-requires : tie.Need-two-requires
-two-requires c κs = search needs
+unnamed-requires : tie.Need-unnamed-requires
+unnamed-requires c κs = search needs
 
 enum-known-by : tie.Need-enum-known-by
 enum-known-by c = search needs
@@ -37,7 +34,7 @@ returns : tie.Need-returns
 returns c =
     let s = now (c .before .before .before .before .before .before .before .args .s) in
     let none = learnt saidRules (c .before .before .before .n .given .1) (c .before .before .before .before .before .rules-named .ensures) in
-    (not-named _ (rulesNumbered _) _ none (c .two .ensures), ap (after s) (stops (rulesNumbered _) _ none))
+    (not-named _ (rulesNumbered _) _ none (c .unnamed .ensures), ap (after s) (stops (rulesNumbered _) _ none))
 
 same-length : tie.Need-same-length
 same-length c = search needs
@@ -55,8 +52,7 @@ skein-command-set-cc-spec =
     (tie.spec
     rules-named-requires
     enum-known-n
-    cast-two
-    two-requires
+    unnamed-requires
     enum-known-by
     set-cc-requires
     outcome-requires

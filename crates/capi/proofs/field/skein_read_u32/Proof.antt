@@ -1,7 +1,10 @@
 -- `capi::field::skein_read_u32` meets its contract: it reports what `read_u32` said.
 -- Assumes nothing.
+use mathlib.Core.Path.{_∙_}
+use Rattle.base.proofs.Only.{read-nowhere}
 use Rattle.capi.proofs.Reported.{as-said}
 use borrow.Author.Needs.{needs}
+use denote.Ref.{now}
 use Rattle.capi.proofs.field.skein_read_u32.Statement.{statement}
 use Rattle.capi.proofs.field.skein_read_u32.Tie as tie
 
@@ -12,7 +15,9 @@ number32-requires : tie.Need-number32-requires
 number32-requires c κs = search needs
 
 returns : tie.Need-returns
-returns c = as-said (c .before .before .read-u32 .ensures) (c .number32 .ensures)
+returns c =
+    let a = c .before .before .before .before .args in
+    as-said (c .before .before .read-u32 .ensures ∙ read-nowhere (a .place) (now (a .s)) 4) (c .number32 .ensures)
 
 pub skein-read-u32-spec : {M : Type 1} → statement M
 skein-read-u32-spec = tie.close (tie.spec read-u32-requires number32-requires returns)

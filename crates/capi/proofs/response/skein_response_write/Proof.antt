@@ -18,11 +18,8 @@ mode-named-requires c κs = search needs
 enum-known-n : tie.Need-enum-known-n
 enum-known-n c = search needs
 
-cast-two : tie.Need-cast-two
-cast-two c = search needs
-
-two-requires : tie.Need-two-requires
-two-requires c κs = search needs
+unnamed-requires : tie.Need-unnamed-requires
+unnamed-requires c κs = search needs
 
 enum-known-by : tie.Need-enum-known-by
 enum-known-by c = search needs
@@ -37,7 +34,7 @@ returns : tie.Need-returns
 returns c =
     let room = now (c .before .before .before .before .before .before .before .before .before .before .args .room) in
     let none = learnt saidMode (c .before .before .before .n .given .1) (c .before .before .before .before .before .mode-named .ensures) in
-    (not-named _ (modeNumbered _) _ none (c .two .ensures), ap (roomAfter room) (stops (modeNumbered _) _ none))
+    (not-named _ (modeNumbered _) _ none (c .unnamed .ensures), ap (roomAfter room) (stops (modeNumbered _) _ none))
 
 same-length : tie.Need-same-length
 same-length c = search needs
@@ -55,8 +52,7 @@ skein-response-write-spec =
     (tie.spec
     mode-named-requires
     enum-known-n
-    cast-two
-    two-requires
+    unnamed-requires
     enum-known-by
     write-requires
     total-requires

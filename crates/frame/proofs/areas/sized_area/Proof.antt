@@ -19,34 +19,34 @@ enum-known-size : tie.Need-enum-known-size
 enum-known-size c = search needs
 
 add-from : tie.Need-add-from
-add-from c = let there = size-there (c .before .before .before .before .before .before .args .end) (now (c .before .before .before .before .before .before .args .s)) (c .before .before .before .before .before .before .args .handles) (learnt saidNumber32 (c .before .size .given .1) (c .before .before .before .read-u32 .ensures)) in omega arith
+add-from c = let there = size-there (c .before .before .before .before .before .before .args .area) (c .before .before .before .before .before .before .args .end) (now (c .before .before .before .before .before .before .args .s)) (c .before .before .before .before .before .before .args .handles) (learnt saidNumber32 (c .before .size .given .1) (c .before .before .before .read-u32 .ensures)) in omega arith
 
 sub-left : tie.Need-sub-left
-sub-left c = size-there (c .before .before .before .before .before .before .args .end) (now (c .before .before .before .before .before .before .args .s)) (c .before .before .before .before .before .before .args .handles) (learnt saidNumber32 (c .before .size .given .1) (c .before .before .before .read-u32 .ensures))
+sub-left c = size-there (c .before .before .before .before .before .before .args .area) (c .before .before .before .before .before .before .args .end) (now (c .before .before .before .before .before .before .args .s)) (c .before .before .before .before .before .before .args .handles) (learnt saidNumber32 (c .before .size .given .1) (c .before .before .before .read-u32 .ensures))
 
 cast-if2 : tie.Need-cast-if2
 cast-if2 c = search needs
 
-cast-t15 : tie.Need-cast-t15
-cast-t15 c = search needs
+cast-t16 : tie.Need-cast-t16
+cast-t16 c = search needs
 
 returns : tie.Need-returns
-returns c = sized-short (c .before .before .before .before .before .before .before .args .end) (now (c .before .before .before .before .before .before .before .args .s)) (c .before .before .before .before .before .before .before .args .handles) (c .before .before .before .before .before .if1 .taken) (learnt saidNumber32 (c .before .before .size .given .1) (c .before .before .before .before .read-u32 .ensures)) (c .if2 .taken)
+returns c = sized-short (c .before .before .before .before .before .before .before .args .area) (c .before .before .before .before .before .before .before .args .end) (now (c .before .before .before .before .before .before .before .args .s)) (c .before .before .before .before .before .before .before .args .handles) (c .before .before .before .before .before .if1 .taken) (learnt saidNumber32 (c .before .before .size .given .1) (c .before .before .before .before .read-u32 .ensures)) (c .if2 .taken)
 
-cast-t13 : tie.Need-cast-t13
-cast-t13 c = search needs
+cast-t14 : tie.Need-cast-t14
+cast-t14 c = search needs
 
-add-t17 : tie.Need-add-t17
-add-t17 c = let there = size-there (c .before .before .before .before .before .before .before .args .end) (now (c .before .before .before .before .before .before .before .args .s)) (c .before .before .before .before .before .before .before .args .handles) (learnt saidNumber32 (c .before .before .size .given .1) (c .before .before .before .before .read-u32 .ensures)) in omega arith
+add-t18 : tie.Need-add-t18
+add-t18 c = let there = size-there (c .before .before .before .before .before .before .before .args .area) (c .before .before .before .before .before .before .before .args .end) (now (c .before .before .before .before .before .before .before .args .s)) (c .before .before .before .before .before .before .before .args .handles) (learnt saidNumber32 (c .before .before .size .given .1) (c .before .before .before .before .read-u32 .ensures)) in omega arith
 
 returns-2 : tie.Need-returns-2
-returns-2 c = size-refused (c .before .before .before .before .before .before .args .end) (now (c .before .before .before .before .before .before .args .s)) (c .before .before .before .before .before .before .args .handles) (c .before .before .before .before .if1 .taken) (learnt saidNumber32 (c .before .e .given .1) (c .before .before .before .read-u32 .ensures))
+returns-2 c = size-refused (c .before .before .before .before .before .before .args .area) (c .before .before .before .before .before .before .args .end) (now (c .before .before .before .before .before .before .args .s)) (c .before .before .before .before .before .before .args .handles) (c .before .before .before .before .if1 .taken) (learnt saidNumber32 (c .before .e .given .1) (c .before .before .before .read-u32 .ensures))
 
 returns-3 : tie.Need-returns-3
-returns-3 c = sized-read (c .before .before .before .before .before .before .before .args .end) (now (c .before .before .before .before .before .before .before .args .s)) (c .before .before .before .before .before .before .before .args .handles) (c .before .before .before .before .before .if1 .taken) (learnt saidNumber32 (c .before .before .size .given .1) (c .before .before .before .before .read-u32 .ensures)) (c .if2 .left)
+returns-3 c = sized-read (c .before .before .before .before .before .before .before .args .area) (c .before .before .before .before .before .before .before .args .end) (now (c .before .before .before .before .before .before .before .args .s)) (c .before .before .before .before .before .before .before .args .handles) (c .before .before .before .before .before .if1 .taken) (learnt saidNumber32 (c .before .before .size .given .1) (c .before .before .before .before .read-u32 .ensures)) (c .if2 .left)
 
 returns-4 : tie.Need-returns-4
-returns-4 c = sized-plain (c .before .before .args .end) (now (c .before .before .args .s)) (c .before .before .args .handles) (c .if1 .left)
+returns-4 c = sized-plain (c .before .before .args .area) (c .before .before .args .end) (now (c .before .before .args .s)) (c .before .before .args .handles) (c .if1 .left)
 
 pub sized-area-spec : {M : Type 1} → statement M
 sized-area-spec =
@@ -58,10 +58,10 @@ sized-area-spec =
     add-from
     sub-left
     cast-if2
-    cast-t15
+    cast-t16
     returns
-    cast-t13
-    add-t17
+    cast-t14
+    add-t18
     returns-2
     returns-3
     returns-4)

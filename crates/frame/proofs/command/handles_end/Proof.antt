@@ -2,14 +2,15 @@
 -- Assumes nothing.
 use mathlib.Core.Path.{ap, sym, _∙_}
 use denote.Ref.{now}
-use Rattle.base.specs.Said.{refuses}
+use Rattle.base.specs.declared.error.Area.the-variants.{Header}
+use Rattle.base.specs.Said.{refuses, within}
 use Rattle.frame.specs.Header.{readCc}
 use Rattle.frame.specs.Command.{commandHandles}
 use Rattle.table.specs.Table.{rowFor, saidFound}
 use Rattle.frame.specs.Rules.{bookOf}
 use Rattle.table.proofs.Table.{row-known}
 use Rattle.base.proofs.Answers.{learnt}
-use Rattle.base.proofs.Checks.{goes-on, stops}
+use Rattle.base.proofs.Checks.{goes-on, stops, within-gives}
 use Rattle.frame.proofs.Headers.{short-header, code-bytes, cc-read, cc-refused}
 use borrow.Author.Needs.{needs}
 use Rattle.frame.proofs.command.handles_end.Statement.{statement}
@@ -67,8 +68,8 @@ returns-2 c =
     let is = c .before .before .before .before .before .be32 .ensures ∙ code-bytes s ten in
     let found = learnt saidFound (c .before .before .row .given .1) (c .before .before .before .before .find .ensures) in
     c .handle-area .ensures
-    ∙ goes-on (rowFor (book .rows) _) _ found
-    ∙ goes-on (readCc book s) _ (cc-read s _ book is ten (row-known _ (sym found)))
+    ∙ goes-on (within Header (rowFor (book .rows) _)) _ found
+    ∙ goes-on (readCc book s) _ (cc-read s _ book is ten (row-known _ (within-gives Header (rowFor (book .rows) _) (sym found))))
 
 returns-3 : tie.Need-returns-3
 unfolding commandHandles
@@ -77,7 +78,7 @@ returns-3 c =
     let book = bookOf (c .before .before .before .before .before .before .before .before .before .before .before .before .before .args .rules) in
     let ten = c .before .before .before .before .before .before .before .before .before .before .before .if1 .left in
     let is = c .before .before .before .before .before .before .be32 .ensures ∙ code-bytes s ten in
-    stops (rowFor (book .rows) _) _ (learnt saidFound (c .before .before .before .e .given .1) (c .before .before .before .before .before .find .ensures))
+    stops (within Header (rowFor (book .rows) _)) _ (learnt saidFound (c .before .before .before .e .given .1) (c .before .before .before .before .before .find .ensures))
     ∙ goes-on (readCc book s) _ (cc-read s _ book is ten (sym (c .before .cc-known .ensures) ∙ c .if2 .taken))
 
 returns-4 : tie.Need-returns-4

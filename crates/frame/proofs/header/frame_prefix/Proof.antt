@@ -40,8 +40,8 @@ returns-2 c =
     let ten = c .before .before .before .before .before .before .if1 .left in
     size-small s _ (c .before .be32 .ensures ∙ size-bytes s ten) ten (c .if2 .taken)
 
-sub-t19 : tie.Need-sub-t19
-sub-t19 c = search needs
+sub-t21 : tie.Need-sub-t21
+sub-t21 c = search needs
 
 returns-3 : tie.Need-returns-3
 returns-3 c =
@@ -68,6 +68,6 @@ frame-prefix-spec =
     be32-requires
     cast-size
     returns-2
-    sub-t19
+    sub-t21
     returns-3
     returns-4)

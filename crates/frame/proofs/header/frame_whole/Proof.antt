@@ -16,8 +16,8 @@ enum-known-read c = search needs
 enum-known-read-2 : tie.Need-enum-known-read-2
 enum-known-read-2 c = search needs
 
-sub-t9 : tie.Need-sub-t9
-sub-t9 c = search needs
+sub-t10 : tie.Need-sub-t10
+sub-t10 c = search needs
 
 returns : tie.Need-returns
 returns c = trailing _ _ (learnt saidCount (c .before .before .read2 .given .1) (c .before .before .before .before .frame-prefix .ensures)) (c .if1 .taken)
@@ -35,7 +35,7 @@ frame-whole-spec =
     frame-prefix-requires
     enum-known-read
     enum-known-read-2
-    sub-t9
+    sub-t10
     returns
     returns-2
     returns-3)

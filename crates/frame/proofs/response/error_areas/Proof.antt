@@ -21,8 +21,8 @@ be16-requires c κs = search needs
 is-error-tag-requires : tie.Need-is-error-tag-requires
 is-error-tag-requires c κs = search needs
 
-sub-t14 : tie.Need-sub-t14
-sub-t14 c = search needs
+sub-t15 : tie.Need-sub-t15
+sub-t15 c = search needs
 
 returns : tie.Need-returns
 returns c =
@@ -56,7 +56,7 @@ error-areas-spec =
     shared-slice-read-be16-2
     be16-requires
     is-error-tag-requires
-    sub-t14
+    sub-t15
     returns
     refused-requires
     returns-2

@@ -5,6 +5,7 @@ use Prim.Native.Nat.{ℕ}
 use denote.Ref.{now}
 use lib.Dec.{eqb}
 use lib.ListN.{length}
+use Rattle.base.specs.declared.error.Area.the-variants.{Parameters}
 use Rattle.frame.specs.Areas.{handleArea, sizedArea}
 use Rattle.frame.specs.Header.{sessions}
 use Rattle.frame.specs.Response.{successAreas}
@@ -48,7 +49,7 @@ returns-2 c =
     let asked = handled .before .before in
     let s = now (asked .before .before .args .s) in
     c .sized-area .ensures
-    ∙ ap (λ (tag : ℕ). sizedArea (eqb tag sessions) (length s) s (handled .handles .given .0 .0)) (c .before .before .be16 .ensures ∙ tag-bytes s (asked .before .before .pre))
+    ∙ ap (λ (tag : ℕ). sizedArea Parameters (eqb tag sessions) (length s) s (handled .handles .given .0 .0)) (c .before .before .be16 .ensures ∙ tag-bytes s (asked .before .before .pre))
     ∙ goes-on (handleArea _ s) _ (learnt saidCount (handled .handles .given .1) (asked .handle-area .ensures))
 
 pub success-areas-spec : {M : Type 1} → statement M

@@ -3,6 +3,7 @@
 use mathlib.Core.Path.{_∙_, ap}
 use native.Mathlib.Omega.{arith}
 use denote.Ref.{now}
+use Rattle.base.specs.declared.error.Area.the-variants.{Authorization}
 use Rattle.base.specs.Answer.{saidNumber32}
 use Rattle.base.proofs.Answers.{learnt}
 use Rattle.frame.specs.Answer.{behindOf}
@@ -23,7 +24,7 @@ enum-told c = search needs
 add-behind-signed : tie.Need-add-behind-signed
 add-behind-signed c =
     let a = c .before .before .before .before .before .args in
-    let there = field-there 4 (a .place) (now (a .s)) (omega arith) (learnt saidNumber32 (c .enum-told .given .1) (c .before .before .read-u32 .ensures)) in
+    let there = field-there Authorization 4 (a .place) (now (a .s)) (omega arith) (learnt saidNumber32 (c .enum-told .given .1) (c .before .before .read-u32 .ensures)) in
     omega arith
 
 behind-signed-requires : tie.Need-behind-signed-requires

@@ -54,14 +54,14 @@ enum-known-e-2 c = search needs
 enum-known-hmac : tie.Need-enum-known-hmac
 enum-known-hmac c = search needs
 
-add-t17 : tie.Need-add-t17
-add-t17 c = search needs
+add-t18 : tie.Need-add-t18
+add-t18 c = search needs
 
-cast-t18 : tie.Need-cast-t18
-cast-t18 c = search needs
+cast-t19 : tie.Need-cast-t19
+cast-t19 c = search needs
 
-add-t19 : tie.Need-add-t19
-add-t19 c = search needs
+add-t20 : tie.Need-add-t20
+add-t20 c = search needs
 
 returns-2 : tie.Need-returns-2
 returns-2 c = ap behindOf (nonce-refused _ 0 _ _ (learnt saidNumber16 (c .before .e .given .1) (c .before .before .before .tpm2b .ensures .0)))
@@ -91,9 +91,9 @@ behind-signed-spec =
     tpm2b-requires-2
     enum-known-e-2
     enum-known-hmac
-    add-t17
-    cast-t18
-    add-t19
+    add-t18
+    cast-t19
+    add-t20
     returns-2
     returns-3
     returns-4)

@@ -5,6 +5,7 @@ use mathlib.Core.Path.{_∙_, ap}
 use native.Mathlib.Omega.{arith}
 use lib.ListN.{length}
 use denote.Ref.{now}
+use Rattle.base.specs.declared.error.Area.the-variants.{Authorization}
 use Rattle.base.specs.Said.{done}
 use Rattle.frame.proofs.Walks.{four-bytes, handle-there, handle-read, no-handle}
 use borrow.Author.Needs.{needs}
@@ -46,7 +47,7 @@ signed-at-requires : tie.Need-signed-at-requires
 signed-at-requires c κs =
     let asked = c .before .before .before .before .before in
     let start = asked .before .before in
-    ap done (handle-read _ 4 _ _ (four-bytes (now (start .args .s)) (start .args .place) (four-there asked) (c .be32 .ensures))) ∙ rw (asked .if1 .taken) at (start .pre)
+    ap done (handle-read _ 4 _ _ (four-bytes Authorization (now (start .args .s)) (start .args .place) (four-there asked) (c .be32 .ensures))) ∙ rw (asked .if1 .taken) at (start .pre)
 
 signed-at-requires-2 : tie.Need-signed-at-requires-2
 signed-at-requires-2 c κs =
@@ -56,7 +57,7 @@ returns : tie.Need-returns
 returns c =
     let asked = c .before .before .before .before .before .before in
     let start = asked .before .before in
-    rw (asked .if1 .taken) (c .signed-at .ensures ∙ handle-read _ 4 _ _ (four-bytes (now (start .args .s)) (start .args .place) (four-there asked) (c .before .be32 .ensures)))
+    rw (asked .if1 .taken) (c .signed-at .ensures ∙ handle-read _ 4 _ _ (four-bytes Authorization (now (start .args .s)) (start .args .place) (four-there asked) (c .before .be32 .ensures)))
 
 returns-2 : tie.Need-returns-2
 returns-2 c = rw (c .before .if1 .left) (c .signed-at2 .ensures ∙ no-handle _ _ _)

@@ -3,6 +3,7 @@
 use mathlib.Core.Path.{ap, _∙_}
 use native.Mathlib.Omega.{arith}
 use denote.Ref.{now}
+use Rattle.base.specs.declared.error.Area.the-variants.{Authorization}
 use Rattle.base.specs.Answer.{saidNumber16}
 use Rattle.base.proofs.Answers.{learnt}
 use Rattle.frame.proofs.Walks.{field-there, goes-by, tpm2b-refused, tpm2b-long, tpm2b-short, tpm2b-read}
@@ -26,8 +27,8 @@ returns c =
 cast-if1 : tie.Need-cast-if1
 cast-if1 c = search needs
 
-cast-t10 : tie.Need-cast-t10
-cast-t10 c = search needs
+cast-t12 : tie.Need-cast-t12
+cast-t12 c = search needs
 
 returns-2 : tie.Need-returns-2
 returns-2 c =
@@ -42,7 +43,7 @@ add-needed c = search needs
 sub-left : tie.Need-sub-left
 sub-left c =
     let a = c .before .before .before .before .before .before .args in
-    let there = field-there 2 (a .place) (now (a .s)) (omega arith) (learnt saidNumber16 (c .before .before .read .given .1) (c .before .before .before .before .read-u16 .ensures)) in
+    let there = field-there Authorization 2 (a .place) (now (a .s)) (omega arith) (learnt saidNumber16 (c .before .before .read .given .1) (c .before .before .before .before .read-u16 .ensures)) in
     omega arith
 
 returns-3 : tie.Need-returns-3
@@ -64,7 +65,7 @@ tpm2b-spec =
     enum-told
     returns
     cast-if1
-    cast-t10
+    cast-t12
     returns-2
     cast-needed
     add-needed

@@ -21,8 +21,8 @@ abbrev μ-loop : tie.MeasureT-loop
 loop-holds : tie.Need-loop-holds Inv-loop μ-loop
 loop-holds c = let a = c .before .args in none-counted (a .limit) (handleWidth (a .command)) (now (a .s)) (a .place)
 
-add-t11 : tie.Need-add-t11 Inv-loop μ-loop
-add-t11 c = search needs
+add-t12 : tie.Need-add-t12 Inv-loop μ-loop
+add-t12 c = search needs
 
 returns : tie.Need-returns Inv-loop μ-loop
 returns c = one-too-many (c .before .before .loop .inv) (c .before .loop-test .taken) (c .if1 .taken)
@@ -67,7 +67,7 @@ walk-spec =
     Inv-loop
     μ-loop
     loop-holds
-    add-t11
+    add-t12
     returns
     behind-entry-requires
     enum-known-e

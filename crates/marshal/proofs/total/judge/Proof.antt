@@ -7,7 +7,7 @@ use Prim.Native.Nat.{ℕ, _-_, _*_, _≤_}
 use mathlib.Core.List.{[], _∷_}
 use lib.ListN.{length}
 use Rattle.base.specs.Answer.{saidCount}
-use Rattle.base.specs.Said.{refuses}
+use Rattle.base.specs.Said.{noArea, refuses}
 use Rattle.base.proofs.Answers.{learnt}
 use Rattle.marshal.proofs.Judgements.{few-handles, many-handles, field-missing, too-large, total-fits, size-small, sum-of}
 use borrow.Author.Needs.{needs}
@@ -23,7 +23,7 @@ common-requires c κs = search needs
 returns : tie.Need-returns
 returns c limit width h hs es ps =
     let a = c .before .before .args in
-    c .common .ensures ∙ ap (λ (n : ℕ). refuses (1 ∷ 0 ∷ (4 * a .count) ∷ n ∷ [])) (sym hs) ∙ few-handles limit width (a .tag) (a .count) h (a .room) (rw hs (c .before .if1 .taken))
+    c .common .ensures ∙ ap (λ (n : ℕ). refuses (noArea (1 ∷ 0 ∷ (4 * a .count) ∷ n ∷ []))) (sym hs) ∙ few-handles limit width (a .tag) (a .count) h (a .room) (rw hs (c .before .if1 .taken))
 
 common-requires-2 : tie.Need-common-requires-2
 common-requires-2 c κs = search needs
@@ -31,7 +31,7 @@ common-requires-2 c κs = search needs
 returns-2 : tie.Need-returns-2
 returns-2 c limit width h hs es ps =
     let a = c .before .before .before .args in
-    c .common2 .ensures ∙ ap (λ (n : ℕ). refuses (2 ∷ (4 * a .count) ∷ (n - 4 * a .count) ∷ [])) (sym hs) ∙ many-handles limit width (a .tag) (a .count) h (a .room) (rw hs (c .before .if2 .taken))
+    c .common2 .ensures ∙ ap (λ (n : ℕ). refuses (noArea (2 ∷ (4 * a .count) ∷ (n - 4 * a .count) ∷ []))) (sym hs) ∙ many-handles limit width (a .tag) (a .count) h (a .room) (rw hs (c .before .if2 .taken))
 
 enum-known-entries : tie.Need-enum-known-entries
 enum-known-entries c = search needs
