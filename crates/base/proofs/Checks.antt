@@ -4,7 +4,7 @@ use mathlib.Core.Path.{_≡_, refl, subst, sym, ap}
 use mathlib.Core.Bool.{Bool, true, false, cond, false≢true}
 use mathlib.Core.Logic.{_⊎_, inl, inr}
 use Rattle.base.specs.declared.error.Area.{Area}
-use Rattle.base.specs.Said.{Why, Said, gives, refuses, needs, then, within, given, done}
+use Rattle.base.specs.Said.{Why, Said, gives, refuses, needs, then, within, done}
 
 abbrev isGiven : {A : Type 0} → Said A → Type 0
 isGiven (gives a) = Unit {0}
@@ -41,10 +41,6 @@ module _ {A : Type 0} where
       → (a : A) × (s ≡ gives a) × (f a ≡ gives b)
   then-within area (gives a) f e = (a, refl, e)
   then-within area (refuses why) f e = absurd (gives≢refuses (sym e))
-
-  pub within-given : (area : Area) (s : Said A) → given (within area s) ≡ given s
-  within-given area (gives a) = refl
-  within-given area (refuses why) = refl
 
   -- the other way: a check that passes goes on, and one that fails refuses; so does a step
   pub passes : (t : Bool) (why : Why) (rest : Said A) → t ≡ true → rest ≡ needs t why rest

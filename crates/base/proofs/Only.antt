@@ -1,12 +1,12 @@
 -- What kinds of refusals an answer has, through each way in which an order of checks is put together: so which numbers it never has (document 02,
 -- W7), and which it has in which area (W2).
 -- Assumes nothing.
-use mathlib.Core.Path.{_≡_, refl, sym, _∙_, ap, subst}
+use mathlib.Core.Path.{_≡_, refl, sym, subst}
 use mathlib.Core.Bool.{Bool, true, false, cond}
 use mathlib.Core.List.{List, [], _∷_}
 use Prim.Native.Nat.{ℕ, _-_}
 use borrow.Author.Tests.{eqb-false}
-use lib.Dec.{eqb, leb}
+use lib.Dec.{leb}
 use lib.ListN.{length}
 use Rattle.base.specs.declared.error.Area.{Area}
 use Rattle.base.specs.declared.error.Area.the-variants.{None}

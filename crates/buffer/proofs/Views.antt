@@ -9,7 +9,7 @@ use lib.Dec.{eqb, leb}
 use lib.ListN.{length, getD}
 use Rattle.base.specs.Bytes.{number}
 use Rattle.base.specs.Parts.{upTo}
-use Rattle.base.specs.Said.{Why, noArea, within, Said, gives, refuses, done}
+use Rattle.base.specs.Said.{Why, noArea, Said, gives, refuses, done}
 use Rattle.base.proofs.Checks.{needs-gives, then-gives, gives-injective, refuses-injective, gives≢refuses}
 use Rattle.base.proofs.Lists.{take-drop-span}
 use Rattle.buffer.specs.View.{sizeOf, readSize, prefix, whole, dataRange, isEmpty}

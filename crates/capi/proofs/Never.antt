@@ -2,7 +2,7 @@
 -- contract; the four that write frames are not here.
 -- Assumes nothing.
 use mathlib.Core.Path.{_≡_, refl, sym, _∙_}
-use mathlib.Core.List.{List, [], _∷_}
+use mathlib.Core.List.{List}
 use Prim.Native.Nat.{ℕ}
 use native.Mathlib.Omega.{arith}
 use borrow.Fn.Kinds.{PK, RK, Out, Dens, resT, endedOf}

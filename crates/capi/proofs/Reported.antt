@@ -1,11 +1,11 @@
 -- From what a callee said to what is reported to C, for every call.
 -- Assumes nothing.
-use mathlib.Core.Path.{_≡_, _∙_, ap, subst}
-use mathlib.Core.List.{List}
-use Prim.Native.Nat.{ℕ}
+use mathlib.Core.Path.{_≡_, refl, _∙_, ap, subst}
+use mathlib.Core.List.{List, [], _∷_}
+use Prim.Native.Nat.{ℕ, suc, _+_, _≤_}
 use native.Mathlib.Omega.{arith}
-use lib.ListN.{length, getD}
-use lib.Seq.{sets, length-sets, getD-set-same}
+use lib.ListN.{length, set, getD}
+use lib.Seq.{sets, set-comm, length-sets, getD-set-same}
 use Rattle.base.specs.Error.{areaNumber}
 use Rattle.base.specs.Said.{Why, numberOf, Said, gives, refuses}
 use Rattle.capi.specs.Out.{fields, returned, answerOver, refusalOver, reportedOver, Reports}
@@ -26,6 +26,12 @@ module _ {A : Type 0} (of : A → List ℕ) (said : Said A) (old : List ℕ) whe
 -- what was reported of an answer is reported of what the answer says
 pub as-said : {A : Type 0} {of : A → List ℕ} {x y : Said A} {old later : List ℕ} {r : ℕ} → x ≡ y → Reports of x old later r → Reports of y old later r
 as-said {of = of} {old = old} {later = later} {r = r} e p = subst (λ (t : Said _). Reports of t old later r) e p
+
+-- a number that is stored before a run of others in front of it is stored as if behind them
+pub stored-before : (vs l : List ℕ) (i j a : ℕ) → i + length vs ≤ j → sets (set l j a) i vs ≡ set (sets l i vs) j a
+stored-before [] l i j a h = refl
+stored-before (v ∷ vs) l i j a h =
+    ap (λ (m : List ℕ). sets m (suc i) vs) (set-comm l j i a v (λ e. omega arith)) ∙ stored-before vs (set l i v) (suc i) j a (omega arith)
 
 -- whatever is refused, its area stands at place 7 (document 02, W2)
 pub area-told : {A : Type 0} {of : A → List ℕ} {said : Said A} {old later : List ℕ} {r : ℕ} {why : Why} → Reports of said old later r → said ≡ refuses why

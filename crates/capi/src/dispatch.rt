@@ -11,7 +11,6 @@ use crate::out::Numbers;
 use base::answer::Flag;
 use base::code::TpmCc;
 use base::code::TpmSt;
-use base::error::Area;
 use table::row::Found;
 
 // The handles and the response handles of a command's row.
@@ -19,7 +18,7 @@ use table::row::Found;
 pub extern "C" fn skein_table_find(cc: u32, out: &mut Numbers) -> u32
     ensures { λ r. ⌜ Reports handleCounts (rowFor dispatch cc) (now (out .entry)) (now (out .exit)) r ⌝ }
 {
-    match table::dispatch::find(Area::None, TpmCc(cc)) {
+    match table::dispatch::find(TpmCc(cc)) {
         Found::Is(row) => out::pair(row.handles as u64, row.responses as u64, out),
         Found::Refused(e) => out::refuse(e, out),
     }

@@ -23,7 +23,8 @@ use base::error::WriteError;
 // The lent array: an answer's numbers from place 0 on, at most four; a refusal's fields from place 4 on, and its area at place 7.
 pub type Numbers = [u64; 8];
 
-// Refusals of no field, of two and of three.
+// Refusals of no field, of two and of three. The area is stored first: the last store is then one that answers have too,
+// and the compiler makes one of them.
 pub(crate) fn bare(number: u32, out: &mut Numbers) -> u32
     ensures { λ r. ⌜ r ≡ number ⌝ }
     ensures { λ r. ⌜ now (out .exit) ≡ refusalOver (noArea (number ∷ [])) (now (out .entry)) ⌝ }
@@ -36,9 +37,9 @@ fn two(number: u32, area: Area, offset: usize, b: u64, out: &mut Numbers) -> u32
     ensures { λ r. ⌜ r ≡ number ⌝ }
     ensures { λ r. ⌜ now (out .exit) ≡ refusalOver (inArea area (number ∷ offset ∷ b ∷ [])) (now (out .entry)) ⌝ }
 {
+    out[7] = area.number() as u64;
     out[4] = offset as u64;
     out[5] = b;
-    out[7] = area.number() as u64;
     number
 }
 
@@ -46,10 +47,10 @@ fn three(number: u32, area: Area, offset: usize, b: usize, c: usize, out: &mut N
     ensures { λ r. ⌜ r ≡ number ⌝ }
     ensures { λ r. ⌜ now (out .exit) ≡ refusalOver (inArea area (number ∷ offset ∷ b ∷ c ∷ [])) (now (out .entry)) ⌝ }
 {
+    out[7] = area.number() as u64;
     out[4] = offset as u64;
     out[5] = b as u64;
     out[6] = c as u64;
-    out[7] = area.number() as u64;
     number
 }
 

@@ -9,7 +9,7 @@ use borrow.Author.Tests.{le-leb, lt-leb, leb-true}
 use lib.Dec.{eqb, leb}
 use lib.ListN.{length, take}
 use Rattle.base.specs.declared.error.Area.{Area}
-use Rattle.base.specs.declared.error.Area.the-variants.{Header, Handles, Authorization, Parameters}
+use Rattle.base.specs.declared.error.Area.the-variants.{Header, Handles, Authorization}
 use Rattle.base.specs.Field.{readField}
 use Rattle.base.specs.Members.{isIn}
 use Rattle.base.specs.Said.{Why, inArea, Said, gives, refuses, then, within, done}
@@ -17,6 +17,7 @@ use Rattle.base.proofs.Checks.{passes, fails, goes-on, stops, needs-gives, then
 use Rattle.table.specs.Table.{rowFor}
 use Rattle.table.specs.Tags.{tags}
 use Rattle.table.specs.declared.row.Row.{Row}
+use Rattle.table.proofs.Only.{row-refused}
 use Rattle.frame.specs.declared.areas.Areas.{Areas}
 use Rattle.frame.specs.declared.session.Session.{Session}
 use Rattle.frame.specs.declared.session.Entries.{Entries}
@@ -162,22 +163,22 @@ module _ (book : Rulebook) (s : List ℕ) where
 
   module _ (cc : ℕ) where
     module _ {code : ℕ} (read : gives code ≡ castResponse book s) where
-      pub areas-no-row : {why : Why} → refuses why ≡ within Header (rowFor (book .rows) cc) → refuses why ≡ responseAreas book cc s
+      pub areas-no-row : {why : Why} → refuses why ≡ rowFor (book .rows) cc → refuses (inArea Header (4 ∷ 0 ∷ cc ∷ [])) ≡ responseAreas book cc s
       unfolding responseAreas
-      areas-no-row e = stops (within Header (rowFor (book .rows) cc)) _ e ∙ goes-on (castResponse book s) _ read
+      areas-no-row e = stops (within Header (rowFor (book .rows) cc)) _ (row-refused Header (book .rows) cc e) ∙ goes-on (castResponse book s) _ read
 
-      module _ {row : Row} (e : gives row ≡ within Header (rowFor (book .rows) cc)) where
+      module _ {row : Row} (e : gives row ≡ rowFor (book .rows) cc) where
         pub areas-success : eqb code 0 ≡ true → successAreas (row .responses) s ≡ responseAreas book cc s
         unfolding responseAreas
         areas-success is =
             ap (λ (t : Bool). cond t (successAreas (row .responses) s) (errorAreas book s)) (sym is)
-            ∙ goes-on (within Header (rowFor (book .rows) cc)) _ e ∙ goes-on (castResponse book s) _ read
+            ∙ goes-on (within Header (rowFor (book .rows) cc)) _ (ap (within Header) e) ∙ goes-on (castResponse book s) _ read
 
         pub areas-error : eqb code 0 ≡ false → errorAreas book s ≡ responseAreas book cc s
         unfolding responseAreas
         areas-error is =
             ap (λ (t : Bool). cond t (successAreas (row .responses) s) (errorAreas book s)) (sym is)
-            ∙ goes-on (within Header (rowFor (book .rows) cc)) _ e ∙ goes-on (castResponse book s) _ read
+            ∙ goes-on (within Header (rowFor (book .rows) cc)) _ (ap (within Header) e) ∙ goes-on (castResponse book s) _ read
 
     pub read-header : {a : Areas} → gives a ≡ responseAreas book cc s → 10 ≤ length s
     unfolding responseAreas

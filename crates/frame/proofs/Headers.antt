@@ -17,6 +17,7 @@ use Rattle.base.proofs.Checks.{passes, fails, goes-on, stops, needs-gives, then
 use Rattle.base.proofs.Lists.{span, take-drop-span}
 use Rattle.table.specs.Table.{rowFor}
 use Rattle.table.specs.Tags.{tags}
+use Rattle.table.proofs.Only.{row-refused}
 use Rattle.table.specs.declared.row.Row.{Row}
 use Rattle.frame.specs.Header.{tagOf, sizeOf, codeOf, reads, header, tagOfThose, readSize, readCc, readRc, setTag, setCc, setRc, framePrefix, frameWhole, isOfTwo, readCommandTag}
 use Rattle.frame.specs.Rules.{Rulebook}
@@ -143,13 +144,13 @@ module _ (s : List ℕ) where
     tag-not-set other = fails (isIn n tags) _ (writeField 2 0 n s) other ∙ has-header _ h
 
     module _ (book : Rulebook) where
-      pub cc-set : {row : Row} → gives row ≡ within Header (rowFor (book .rows) n) → writeField 4 6 n s ≡ setCc book n s
+      pub cc-set : {row : Row} → gives row ≡ rowFor (book .rows) n → writeField 4 6 n s ≡ setCc book n s
       unfolding setCc
-      cc-set found = goes-on (within Header (rowFor (book .rows) n)) _ found ∙ has-header _ h
+      cc-set found = goes-on (within Header (rowFor (book .rows) n)) _ (ap (within Header) found) ∙ has-header _ h
 
-      pub cc-not-set : {why : Why} → refuses why ≡ within Header (rowFor (book .rows) n) → refuses why ≡ setCc book n s
+      pub cc-not-set : {why : Why} → refuses why ≡ rowFor (book .rows) n → refuses (inArea Header (4 ∷ 0 ∷ n ∷ [])) ≡ setCc book n s
       unfolding setCc
-      cc-not-set lacks = stops (within Header (rowFor (book .rows) n)) _ lacks ∙ has-header _ h
+      cc-not-set lacks = stops (within Header (rowFor (book .rows) n)) _ (row-refused Header (book .rows) n lacks) ∙ has-header _ h
 
       module _ (tag : ℕ) where
         pub rc-set : tag ≡ tagOf s → reads book tag n ≡ true → writeField 4 6 n s ≡ setRc book n s

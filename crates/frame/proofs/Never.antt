@@ -3,13 +3,13 @@
 -- Assumes nothing.
 use mathlib.Core.Path.{_≡_, refl}
 use mathlib.Core.Bool.{Bool, true, false, Bool·beq}
-use mathlib.Core.List.{List, [], _∷_}
+use mathlib.Core.List.{List}
 use mathlib.Core.Logic.{⊎-elim}
 use Prim.Native.Nat.{ℕ}
 use lib.Dec.{eqb}
 use Rattle.base.specs.declared.error.Area.{Area}
 use Rattle.base.specs.declared.error.Area.the-variants.{None, Header, Handles, Authorization, Parameters}
-use Rattle.base.specs.Said.{Why, numberOf, Said, otherThan, Only, Never}
+use Rattle.base.specs.Said.{Why, numberOf, otherThan, Never}
 use Rattle.base.proofs.Only.{by-step, by-wider}
 use Rattle.base.proofs.Tables.{every, at-member, agree}
 use Rattle.frame.specs.Command.{castCommand, castCommandPrefix, readCommand, handlesRange, authRange, parametersRange}

@@ -91,8 +91,8 @@ pub fn set_cc(rules: Rules, s: &mut [u8], cc: TpmCc) -> Outcome
     if s.len() < HEADER_SIZE {
         return Outcome::Refused(short(s.len()));
     }
-    match find(Area::Header, cc) {
-        Found::Refused(e) => Outcome::Refused(e),
+    match find(cc) {
+        Found::Refused(_) => Outcome::Refused(cc.refused(Area::Header, 0)),
         Found::Is(_) => write_u32(s, 6, cc.0),
     }
 }
@@ -107,11 +107,11 @@ fn handles_end(rules: Rules, s: &[u8]) -> Count
         return Count::Refused(short(s.len()));
     }
     let cc = TpmCc(be32(s[6], s[7], s[8], s[9]));
-    match find(Area::Header, cc) {
+    match find(cc) {
         Found::Is(row) => handle_area(row.handles, s),
-        Found::Refused(e) => {
+        Found::Refused(_) => {
             if cc_known(cc) {
-                Count::Refused(e)
+                Count::Refused(cc.refused(Area::Header, 0))
             } else {
                 Count::Refused(cc.refused(Area::Header, 6))
             }

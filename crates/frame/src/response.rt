@@ -293,8 +293,8 @@ fn areas(rules: Rules, cc: TpmCc, s: &[u8]) -> Divided
 {
     match cast_code(rules, s) {
         ResponseCode::Refused(e) => Divided::Refused(e),
-        ResponseCode::Is(code) => match find(Area::Header, cc) {
-            Found::Refused(e) => Divided::Refused(e),
+        ResponseCode::Is(code) => match find(cc) {
+            Found::Refused(_) => Divided::Refused(cc.refused(Area::Header, 0)),
             Found::Is(row) => {
                 if code.0 == 0 {
                     success_areas(row.responses, s)

@@ -1,11 +1,8 @@
 -- Each public function of keeper leaves a single answer and a single later state of what was lent (base, specs/Single.antt).
 -- Assumes nothing.
 use mathlib.Core.Path.{_≡_, refl, sym, _∙_, ap}
-use mathlib.Core.List.{List}
-use Prim.Native.Nat.{ℕ}
 use mathlib.Core.Bool.{cond}
 use lib.Dec.{eqb}
-use lib.ListN.{getD}
 use Rattle.base.specs.declared.error.TpmError.{TpmError}
 use Rattle.base.specs.Answer.{Part}
 use Rattle.base.specs.Error as frame

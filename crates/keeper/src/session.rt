@@ -1,7 +1,6 @@
 // Opening, closing and asking.
 ghost use mathlib.Core.Path.{_≡_};
 ghost use lib.ListN.{length, replicate};
-ghost use Rattle.base.specs.Parts.{heldAt};
 ghost use Rattle.base.specs.Said.{after, done};
 ghost use Rattle.keeper.specs.Keeper.{asked, closed, opened};
 ghost use Rattle.keeper.specs.Refusal.{saidAsked, saidOutcome};

@@ -46,7 +46,7 @@ fn judge_command(
         if MAX_SESSIONS < sessions.count {
             return common(too_many(sessions.count));
         }
-        return match find(Area::None, cc) {
+        return match find(cc) {
             Found::Refused(e) => common(e),
             Found::Is(row) => {
                 let limit = longest(rules);

@@ -112,7 +112,7 @@ fn judge_response(
     if MAX_SESSIONS < sessions.count {
         return common(too_many(sessions.count));
     }
-    match find(Area::None, cc) {
+    match find(cc) {
         Found::Refused(e) => common(e),
         Found::Is(row) => {
             if asks_bad_tag(rules) {

@@ -2,7 +2,7 @@
 -- Assumes nothing.
 use mathlib.Core.Path.{_≡_, refl, sym, _∙_, ap, subst}
 use mathlib.Core.Bool.{Bool, true, false, _&&_, cond}
-use mathlib.Core.List.{List, [], _∷_}
+use mathlib.Core.List.{[], _∷_}
 use mathlib.Core.Logic.{_⊎_, ⊎-elim, _↔_}
 use Prim.Native.Nat.{ℕ, _+_, _-_, _*_, _/_, _%_, _^_, _≤_, _<_}
 use native.Mathlib.Omega.{arith}
@@ -10,7 +10,7 @@ use borrow.Author.Tests.{eqb-true, eqb-false, ltb-true, ltb-false, eq-eqb}
 use lib.Bits.{bitOr, or-block, or-zero-r, or-shifted-r}
 use lib.Dec.{eqb, ltb}
 use lib.Pow.{shr-shr}
-use Rattle.base.specs.Said.{Why, noArea, Said, gives, refuses, Only, needs}
+use Rattle.base.specs.Said.{Why, noArea, gives, Only}
 use Rattle.base.proofs.Checks.{needs-gives, cond-gives, gives-injective}
 use Rattle.base.proofs.Only.{by-gives, by-needs, by-cond}
 use Rattle.rc.specs.declared.code.Code.{Code}

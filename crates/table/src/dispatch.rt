@@ -2,7 +2,6 @@
 ghost use mathlib.Core.Path.{_≡_};
 ghost use Prim.Native.Nat.{_<_};
 ghost use Rattle.base.specs.Members.{isIn};
-ghost use Rattle.base.specs.Said.{within};
 ghost use Rattle.table.specs.Dispatch.{commandCodes, dispatch};
 ghost use Rattle.table.specs.Table.{rowFor, saidFound};
 use crate::parts;
@@ -47,9 +46,8 @@ fn guess(code: u32) -> usize
 
 // The row of a code: it stands from lo to before hi, if anywhere. The first look is at the guess. Below the code the next look is one
 // row on, which settles a code that has none; above it the search halves. The guess changes no answer.
-// A code without a row is refused in the area of the frame that is named.
-pub fn find(area: Area, cc: TpmCc) -> Found
-    ensures { λ r. ⌜ saidFound r ≡ within area (rowFor dispatch (cc .0)) ⌝ }
+pub fn find(cc: TpmCc) -> Found
+    ensures { λ r. ⌜ saidFound r ≡ rowFor dispatch (cc .0) ⌝ }
 {
     let mut lo = 0;
     let mut hi = 126;
@@ -67,14 +65,14 @@ pub fn find(area: Area, cc: TpmCc) -> Found
             place = lo + (hi - lo) / 2;
         }
     }
-    Found::Refused(cc.refused(area, 0))
+    Found::Refused(cc.refused(Area::None, 0))
 }
 
 // Whether TpmCc has a code.
 pub fn cc_known(cc: TpmCc) -> bool
     ensures { λ r. ⌜ r ≡ isIn (cc .0) commandCodes ⌝ }
 {
-    match find(Area::None, cc) {
+    match find(cc) {
         Found::Is(_) => true,
         Found::Refused(_) => false,
     }

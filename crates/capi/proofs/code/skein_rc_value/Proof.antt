@@ -1,10 +1,9 @@
 -- `capi::code::skein_rc_value` meets its contract: each arm knows which of the six numbers the kind is, and the last that it is none.
 -- Assumes nothing.
-use mathlib.Core.Path.{_≡_, refl}
+use mathlib.Core.Path.{refl}
 use borrow.Author.Tests.{ne-eqb}
-use Rattle.base.specs.Said.{refuses}
 use Rattle.capi.specs.Code.{kindNumbered, value}
-use Rattle.capi.proofs.Reported.{as-said, refused}
+use Rattle.capi.proofs.Reported.{refused}
 use borrow.Author.Needs.{needs}
 use Rattle.capi.proofs.code.skein_rc_value.Statement.{statement}
 use Rattle.capi.proofs.code.skein_rc_value.Tie as tie

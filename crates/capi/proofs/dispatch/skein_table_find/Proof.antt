@@ -1,9 +1,6 @@
 -- `capi::dispatch::skein_table_find` meets its contract: in each arm the answer is its variant.
 -- Assumes nothing.
-use mathlib.Core.Path.{_∙_}
-use Rattle.table.specs.Dispatch.{dispatch}
 use Rattle.table.specs.Table.{saidFound}
-use Rattle.table.proofs.Only.{row-nowhere}
 use Rattle.base.proofs.Answers.{learnt}
 use Rattle.capi.specs.Frame.{handleCounts}
 use Rattle.capi.proofs.Reported.{answered-by, refused}
@@ -33,10 +30,10 @@ refuse-requires : tie.Need-refuse-requires
 refuse-requires c κs = search needs
 
 returns : tie.Need-returns
-returns c = answered-by handleCounts _ _ _ _ _ (learnt saidFound (c .before .before .before .before .before .row .given .1) (c .before .before .before .before .before .before .before .find .ensures ∙ row-nowhere dispatch _)) (c .pair .ensures)
+returns c = answered-by handleCounts _ _ _ _ _ (learnt saidFound (c .before .before .before .before .before .row .given .1) (c .before .before .before .before .before .before .before .find .ensures)) (c .pair .ensures)
 
 returns-2 : tie.Need-returns-2
-returns-2 c = refused handleCounts _ _ _ _ _ (learnt saidFound (c .before .before .before .e .given .1) (c .before .before .before .before .before .find .ensures ∙ row-nowhere dispatch _)) (c .refuse .ensures)
+returns-2 c = refused handleCounts _ _ _ _ _ (learnt saidFound (c .before .before .before .e .given .1) (c .before .before .before .before .before .find .ensures)) (c .refuse .ensures)
 
 pub skein-table-find-spec : {M : Type 1} → statement M
 skein-table-find-spec =

@@ -1,15 +1,14 @@
--- `capi::out::two` meets its contract: the area is stored by its number, behind the fields.
+-- `capi::out::two` meets its contract: the area is stored by its number, before the fields, which stand before it.
 -- Assumes nothing.
 use mathlib.Core.Path.{refl}
+use mathlib.Core.List.{[], _∷_}
+use native.Mathlib.Omega.{arith}
 use borrow.Author.Needs.{needs}
+use denote.Ref.{now}
+use Rattle.base.specs.Error.{areaNumber}
+use Rattle.capi.proofs.Reported.{stored-before}
 use Rattle.capi.proofs.out.two.Statement.{statement}
 use Rattle.capi.proofs.out.two.Tie as tie
-
-element-write-out : tie.Need-element-write-out
-element-write-out c = search needs
-
-element-write-out-2 : tie.Need-element-write-out-2
-element-write-out-2 c = search needs
 
 number-requires : tie.Need-number-requires
 number-requires c κs = search needs
@@ -17,19 +16,27 @@ number-requires c κs = search needs
 cast-out : tie.Need-cast-out
 cast-out c = search needs
 
+element-write-out : tie.Need-element-write-out
+element-write-out c = search needs
+
+element-write-out-2 : tie.Need-element-write-out-2
+element-write-out-2 c = search needs
+
 element-write-out-3 : tie.Need-element-write-out-3
 element-write-out-3 c = search needs
 
 returns : tie.Need-returns
-returns c = rw (c .number .ensures) (refl, refl)
+returns c =
+    let a = c .before .args in
+    rw (c .number .ensures) (refl, stored-before (a .offset ∷ a .b ∷ []) (now (a .out)) 4 7 (areaNumber (a .area)) (omega arith))
 
 pub two-spec : {M : Type 1} → statement M
 two-spec =
     tie.close
     (tie.spec
-    element-write-out
-    element-write-out-2
     number-requires
     cast-out
+    element-write-out
+    element-write-out-2
     element-write-out-3
     returns)

@@ -8,9 +8,10 @@ use Rattle.frame.specs.Header.{readCc}
 use Rattle.frame.specs.Command.{commandHandles}
 use Rattle.table.specs.Table.{rowFor, saidFound}
 use Rattle.frame.specs.Rules.{bookOf}
+use Rattle.table.proofs.Only.{row-refused}
 use Rattle.table.proofs.Table.{row-known}
 use Rattle.base.proofs.Answers.{learnt}
-use Rattle.base.proofs.Checks.{goes-on, stops, within-gives}
+use Rattle.base.proofs.Checks.{goes-on, stops}
 use Rattle.frame.proofs.Headers.{short-header, code-bytes, cc-read, cc-refused}
 use borrow.Author.Needs.{needs}
 use Rattle.frame.proofs.command.handles_end.Statement.{statement}
@@ -50,14 +51,17 @@ enum-known-row c = search needs
 handle-area-requires : tie.Need-handle-area-requires
 handle-area-requires c κs = search needs
 
-enum-known-e : tie.Need-enum-known-e
-enum-known-e c = search needs
+enum-told : tie.Need-enum-told
+enum-told c = search needs
 
 cc-known-requires : tie.Need-cc-known-requires
 cc-known-requires c κs = search needs
 
 refused-requires : tie.Need-refused-requires
 refused-requires c κs = search needs
+
+refused-requires-2 : tie.Need-refused-requires-2
+refused-requires-2 c κs = search needs
 
 returns-2 : tie.Need-returns-2
 unfolding commandHandles
@@ -68,8 +72,8 @@ returns-2 c =
     let is = c .before .before .before .before .before .be32 .ensures ∙ code-bytes s ten in
     let found = learnt saidFound (c .before .before .row .given .1) (c .before .before .before .before .find .ensures) in
     c .handle-area .ensures
-    ∙ goes-on (within Header (rowFor (book .rows) _)) _ found
-    ∙ goes-on (readCc book s) _ (cc-read s _ book is ten (row-known _ (within-gives Header (rowFor (book .rows) _) (sym found))))
+    ∙ goes-on (within Header (rowFor (book .rows) _)) _ (ap (within Header) found)
+    ∙ goes-on (readCc book s) _ (cc-read s _ book is ten (row-known _ (sym found)))
 
 returns-3 : tie.Need-returns-3
 unfolding commandHandles
@@ -78,17 +82,18 @@ returns-3 c =
     let book = bookOf (c .before .before .before .before .before .before .before .before .before .before .before .before .before .args .rules) in
     let ten = c .before .before .before .before .before .before .before .before .before .before .before .if1 .left in
     let is = c .before .before .before .before .before .before .be32 .ensures ∙ code-bytes s ten in
-    stops (within Header (rowFor (book .rows) _)) _ (learnt saidFound (c .before .before .before .e .given .1) (c .before .before .before .before .before .find .ensures))
-    ∙ goes-on (readCc book s) _ (cc-read s _ book is ten (sym (c .before .cc-known .ensures) ∙ c .if2 .taken))
+    ap refuses (c .refused .ensures)
+    ∙ stops (within Header (rowFor (book .rows) _)) _ (row-refused Header (book .rows) _ (learnt saidFound (c .before .before .before .enum-told .given .1) (c .before .before .before .before .before .find .ensures)))
+    ∙ goes-on (readCc book s) _ (cc-read s _ book is ten (sym (c .before .before .cc-known .ensures) ∙ c .before .if2 .taken))
 
 returns-4 : tie.Need-returns-4
 unfolding commandHandles
 returns-4 c =
-    let s = now (c .before .before .before .before .before .before .before .before .before .before .before .before .before .before .args .s) in
-    let book = bookOf (c .before .before .before .before .before .before .before .before .before .before .before .before .before .before .args .rules) in
-    let ten = c .before .before .before .before .before .before .before .before .before .before .before .before .if1 .left in
-    let is = c .before .before .before .before .before .before .before .be32 .ensures ∙ code-bytes s ten in
-    ap refuses (c .refused .ensures)
+    let s = now (c .before .before .before .before .before .before .before .before .before .before .before .before .before .args .s) in
+    let book = bookOf (c .before .before .before .before .before .before .before .before .before .before .before .before .before .args .rules) in
+    let ten = c .before .before .before .before .before .before .before .before .before .before .before .if1 .left in
+    let is = c .before .before .before .before .before .before .be32 .ensures ∙ code-bytes s ten in
+    ap refuses (c .refused2 .ensures)
     ∙ stops (readCc book s) _ (cc-refused s _ book is ten (sym (c .before .before .cc-known .ensures) ∙ c .before .if2 .left))
 
 pub handles-end-spec : {M : Type 1} → statement M
@@ -105,9 +110,10 @@ handles-end-spec =
     find-requires
     enum-known-row
     handle-area-requires
-    enum-known-e
+    enum-told
     cc-known-requires
     refused-requires
+    refused-requires-2
     returns-2
     returns-3
     returns-4)

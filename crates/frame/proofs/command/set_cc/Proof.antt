@@ -23,11 +23,14 @@ returns c =
 find-requires : tie.Need-find-requires
 find-requires c κs = search needs
 
-enum-known-e : tie.Need-enum-known-e
-enum-known-e c = search needs
-
 enum-told : tie.Need-enum-told
 enum-told c = search needs
+
+refused-requires : tie.Need-refused-requires
+refused-requires c κs = search needs
+
+enum-told-2 : tie.Need-enum-told-2
+enum-told-2 c = search needs
 
 write-u32-requires : tie.Need-write-u32-requires
 write-u32-requires c κs = search needs
@@ -35,7 +38,8 @@ write-u32-requires c κs = search needs
 returns-2 : tie.Need-returns-2
 returns-2 c =
     let s = now (c .before .before .before .before .before .before .args .s) in
-    refused-set s (cc-not-set s _ (c .before .before .before .before .if1 .left) _ (learnt saidFound (c .before .e .given .1) (c .before .before .before .find .ensures)))
+    let by = refused-set s (cc-not-set s _ (c .before .before .before .before .if1 .left) _ (learnt saidFound (c .before .enum-told .given .1) (c .before .before .before .find .ensures))) in
+    (ap refuses (c .refused .ensures) ∙ by .0, by .1)
 
 same-length : tie.Need-same-length
 same-length c = search needs
@@ -43,7 +47,7 @@ same-length c = search needs
 returns-3 : tie.Need-returns-3
 returns-3 c =
     let s = now (c .before .before .before .before .before .before .before .before .before .args .s) in
-    let by = set-by s (cc-set s _ (c .before .before .before .before .before .before .before .if1 .left) _ (learnt saidFound (c .before .before .before .before .enum-told .given .1) (c .before .before .before .before .before .before .find .ensures))) in
+    let by = set-by s (cc-set s _ (c .before .before .before .before .before .before .before .if1 .left) _ (learnt saidFound (c .before .before .before .before .enum-told2 .given .1) (c .before .before .before .before .before .before .find .ensures))) in
     (c .before .before .write-u32 .ensures .0 ∙ by .0, c .before .before .write-u32 .ensures .1 ∙ by .1)
 
 pub set-cc-spec : {M : Type 1} → statement M
@@ -53,8 +57,9 @@ set-cc-spec =
     short-requires
     returns
     find-requires
-    enum-known-e
     enum-told
+    refused-requires
+    enum-told-2
     write-u32-requires
     returns-2
     same-length

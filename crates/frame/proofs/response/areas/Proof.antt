@@ -1,6 +1,7 @@
 -- `frame::response::areas` meets its contract: it goes by what `cast_code` and the search said, and by whether the code is success.
 -- Assumes nothing.
-use mathlib.Core.Path.{_∙_}
+use mathlib.Core.Path.{_∙_, ap}
+use Rattle.base.specs.Said.{refuses}
 use denote.Ref.{now}
 use borrow.Author.Tests.{eq-eqb, ne-eqb}
 use Rattle.base.specs.Answer.{saidResponseCode}
@@ -25,8 +26,11 @@ enum-known-code c = search needs
 find-requires : tie.Need-find-requires
 find-requires c κs = search needs
 
-enum-known-e-2 : tie.Need-enum-known-e-2
-enum-known-e-2 c = search needs
+enum-told : tie.Need-enum-told
+enum-told c = search needs
+
+refused-requires : tie.Need-refused-requires
+refused-requires c κs = search needs
 
 enum-known-row : tie.Need-enum-known-row
 enum-known-row c = search needs
@@ -46,7 +50,7 @@ unfolding responseAreas
 returns c = stops (castResponse _ (now (c .before .before .before .before .before .args .s))) _ (learnt saidResponseCode (c .before .e .given .1) (c .before .before .before .cast-code .ensures))
 
 returns-2 : tie.Need-returns-2
-returns-2 c = areas-no-row _ (now (c .before .before .before .before .before .before .before .before .before .args .s)) _ (learnt saidResponseCode (c .before .before .before .before .before .code .given .1) (c .before .before .before .before .before .before .before .cast-code .ensures)) (learnt saidFound (c .before .e2 .given .1) (c .before .before .before .find .ensures))
+returns-2 c = ap refuses (c .refused .ensures) ∙ areas-no-row _ (now (c .before .before .before .before .before .before .before .before .before .args .s)) _ (learnt saidResponseCode (c .before .before .before .before .before .code .given .1) (c .before .before .before .before .before .before .before .cast-code .ensures)) (learnt saidFound (c .before .enum-told .given .1) (c .before .before .before .find .ensures))
 
 returns-3 : tie.Need-returns-3
 returns-3 c =
@@ -70,7 +74,8 @@ areas-spec =
     enum-known-e
     enum-known-code
     find-requires
-    enum-known-e-2
+    enum-told
+    refused-requires
     enum-known-row
     success-areas-requires
     error-areas-requires

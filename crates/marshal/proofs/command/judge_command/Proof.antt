@@ -8,8 +8,6 @@ use Rattle.base.specs.Said.{refuses}
 use Rattle.base.proofs.Answers.{learnt}
 use Rattle.frame.specs.Rules.{bookOf}
 use Rattle.table.specs.Table.{saidFound}
-use Rattle.table.specs.Dispatch.{dispatch}
-use Rattle.table.proofs.Only.{row-nowhere}
 use Rattle.marshal.specs.Handed.{handed}
 use Rattle.marshal.specs.Write.{counted}
 use Rattle.marshal.proofs.Judgements.{entries-found, entries-bound}
@@ -72,14 +70,14 @@ returns-2 : tie.Need-returns-2
 returns-2 c =
     let a = c .before .before .before .before .before .before .before .before .before .before .before .before .before .args in
     let h = handed (now (a .handles)) (a .sessions) (now (a .lent)) (now (a .parameters)) in
-    c .common2 .ensures ∙ ap counted (no-row (bookOf (a .rules)) (a .tag .0) (a .cc .0) h (a .room) (c .before .before .before .before .before .before .before .if1 .taken ∙ c .before .before .before .before .before .before .before .before .before .tag-for .ensures) (c .before .before .before .before .before .if2 .left) (learnt saidFound (c .before .before .e .given .1) (c .before .before .before .before .find .ensures ∙ row-nowhere dispatch _)))
+    c .common2 .ensures ∙ ap counted (no-row (bookOf (a .rules)) (a .tag .0) (a .cc .0) h (a .room) (c .before .before .before .before .before .before .before .if1 .taken ∙ c .before .before .before .before .before .before .before .before .before .tag-for .ensures) (c .before .before .before .before .before .if2 .left) (learnt saidFound (c .before .before .e .given .1) (c .before .before .before .before .find .ensures)))
 
 returns-3 : tie.Need-returns-3
 returns-3 c =
     let a = c .before .before .before .before .before .before .before .before .before .before .before .before .before .before .before .before .before .args in
     let h = handed (now (a .handles)) (a .sessions) (now (a .lent)) (now (a .parameters)) in
     c .judge .ensures (bookOf (a .rules) .longest) 4 h refl (rw (c .before .before .before .before .longest .ensures) at (c .before .found .ensures ∙ entries-found _ _ 4 _ (c .before .before .before .look .ensures) (c .before .before .entries-length .ensures))) refl
-    ∙ command-judged (bookOf (a .rules)) (a .tag .0) (a .cc .0) h (a .room) (c .before .before .before .before .before .before .before .before .before .before .before .if1 .taken ∙ c .before .before .before .before .before .before .before .before .before .before .before .before .before .tag-for .ensures) (c .before .before .before .before .before .before .before .before .before .if2 .left) (learnt saidFound (c .before .before .before .before .before .before .row .given .1) (c .before .before .before .before .before .before .before .before .find .ensures ∙ row-nowhere dispatch _))
+    ∙ command-judged (bookOf (a .rules)) (a .tag .0) (a .cc .0) h (a .room) (c .before .before .before .before .before .before .before .before .before .before .before .if1 .taken ∙ c .before .before .before .before .before .before .before .before .before .before .before .before .before .tag-for .ensures) (c .before .before .before .before .before .before .before .before .before .if2 .left) (learnt saidFound (c .before .before .before .before .before .before .row .given .1) (c .before .before .before .before .before .before .before .before .find .ensures))
 
 refused-requires : tie.Need-refused-requires
 refused-requires c κs = search needs

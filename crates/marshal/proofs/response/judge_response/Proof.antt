@@ -10,8 +10,6 @@ use Rattle.base.proofs.Answers.{learnt}
 use Rattle.table.specs.Table.{saidFound}
 use Rattle.frame.specs.declared.rules.Rules.{Rules}
 use Rattle.frame.specs.Rules.{bookOf}
-use Rattle.table.specs.Dispatch.{dispatch}
-use Rattle.table.proofs.Only.{row-nowhere}
 use Rattle.marshal.specs.Handed.{handed}
 use Rattle.marshal.specs.Mode.{asked, bookFor}
 use Rattle.marshal.specs.Write.{counted, judged}
@@ -56,7 +54,7 @@ returns-2 c =
     let a = c .before .before .before .before .before .before .before .before .before .before .before .before .args in
     let h = handed (now (a .handles)) (a .sessions) (now (a .lent)) (now (a .parameters)) in
     c .judge-bad-tag .ensures
-    ∙ bad-tag-judged (bookFor (a .rules)) (asked (a .rules)) (a .cc .0) (a .rc .0) h (a .room) (c .before .before .before .before .before .before .before .if1 .left) (learnt saidFound (c .before .before .before .before .row .given .1) (c .before .before .before .before .before .before .find .ensures ∙ row-nowhere dispatch _)) (sym (c .before .before .asks-bad-tag .ensures) ∙ c .before .if2 .taken)
+    ∙ bad-tag-judged (bookFor (a .rules)) (asked (a .rules)) (a .cc .0) (a .rc .0) h (a .room) (c .before .before .before .before .before .before .before .if1 .left) (learnt saidFound (c .before .before .before .before .row .given .1) (c .before .before .before .before .before .before .find .ensures)) (sym (c .before .before .asks-bad-tag .ensures) ∙ c .before .if2 .taken)
 
 rules-for-requires : tie.Need-rules-for-requires
 rules-for-requires c κs = search needs
@@ -97,7 +95,7 @@ returns-3 c =
     named .longest .ensures ∙ ap (λ (r : Rules). bookOf r .longest) (named .before .rules-for .ensures) in
     c .judge .ensures (bookFor (a .rules) .longest) 0 h refl (rw limit at (c .before .found .ensures ∙ entries-found _ _ 0 _ (c .before .before .before .before .look .ensures) (c .before .before .entries-length .ensures))) refl
     ∙ ap (λ (tag : ℕ). judged (bookFor (a .rules) .longest) 0 tag (c .before .before .before .before .before .before .before .before .before .before .before .before .row .given .0 .0 .responses) h (a .room)) (c .before .before .before .tag-for .ensures)
-    ∙ success-judged (bookFor (a .rules)) (asked (a .rules)) (a .cc .0) (a .rc .0) h (a .room) (c .before .before .before .before .before .before .before .before .before .before .before .before .before .before .before .if1 .left) (learnt saidFound (c .before .before .before .before .before .before .before .before .before .before .before .before .row .given .1) (c .before .before .before .before .before .before .before .before .before .before .before .before .before .before .find .ensures ∙ row-nowhere dispatch _)) (sym (c .before .before .before .before .before .before .before .before .before .before .asks-bad-tag .ensures) ∙ c .before .before .before .before .before .before .before .before .before .if2 .left) (c .before .before .before .before .before .before .before .if3 .taken)
+    ∙ success-judged (bookFor (a .rules)) (asked (a .rules)) (a .cc .0) (a .rc .0) h (a .room) (c .before .before .before .before .before .before .before .before .before .before .before .before .before .before .before .if1 .left) (learnt saidFound (c .before .before .before .before .before .before .before .before .before .before .before .before .row .given .1) (c .before .before .before .before .before .before .before .before .before .before .before .before .before .before .find .ensures)) (sym (c .before .before .before .before .before .before .before .before .before .before .asks-bad-tag .ensures) ∙ c .before .before .before .before .before .before .before .before .before .if2 .left) (c .before .before .before .before .before .before .before .if3 .taken)
 
 judge-error-requires : tie.Need-judge-error-requires
 judge-error-requires c κs = search needs
@@ -106,14 +104,14 @@ returns-4 : tie.Need-returns-4
 returns-4 c =
     let a = c .before .before .before .before .before .before .before .before .before .before .args in
     let h = handed (now (a .handles)) (a .sessions) (now (a .lent)) (now (a .parameters)) in
-    c .common2 .ensures ∙ ap counted (no-command (bookFor (a .rules)) (asked (a .rules)) (a .cc .0) (a .rc .0) h (a .room) (c .before .before .before .before .before .if1 .left) (learnt saidFound (c .before .before .e .given .1) (c .before .before .before .before .find .ensures ∙ row-nowhere dispatch _)))
+    c .common2 .ensures ∙ ap counted (no-command (bookFor (a .rules)) (asked (a .rules)) (a .cc .0) (a .rc .0) h (a .room) (c .before .before .before .before .before .if1 .left) (learnt saidFound (c .before .before .e .given .1) (c .before .before .before .before .find .ensures)))
 
 returns-5 : tie.Need-returns-5
 returns-5 c =
     let a = c .before .before .before .before .before .before .before .before .before .before .before .before .before .before .args in
     let h = handed (now (a .handles)) (a .sessions) (now (a .lent)) (now (a .parameters)) in
     c .judge-error .ensures
-    ∙ error-judged (bookFor (a .rules)) (asked (a .rules)) (a .cc .0) (a .rc .0) h (a .room) (c .before .before .before .before .before .before .before .before .before .if1 .left) (learnt saidFound (c .before .before .before .before .before .before .row .given .1) (c .before .before .before .before .before .before .before .before .find .ensures ∙ row-nowhere dispatch _)) (sym (c .before .before .before .before .asks-bad-tag .ensures) ∙ c .before .before .before .if2 .left) (c .before .if3 .left)
+    ∙ error-judged (bookFor (a .rules)) (asked (a .rules)) (a .cc .0) (a .rc .0) h (a .room) (c .before .before .before .before .before .before .before .before .before .if1 .left) (learnt saidFound (c .before .before .before .before .before .before .row .given .1) (c .before .before .before .before .before .before .before .before .find .ensures)) (sym (c .before .before .before .before .asks-bad-tag .ensures) ∙ c .before .before .before .if2 .left) (c .before .if3 .left)
 
 pub judge-response-spec : {M : Type 1} → statement M
 judge-response-spec =

@@ -5,7 +5,7 @@ use mathlib.Core.Path.{_∙_, ap}
 use Prim.Native.Nat.{_-_, _≤_, _<_}
 use native.Mathlib.Omega.{arith}
 use borrow.Author.Needs.{needs}
-use Rattle.base.specs.Said.{refuses, within}
+use Rattle.base.specs.Said.{refuses}
 use Rattle.table.specs.declared.row.Row.{Row}
 use Rattle.table.specs.Dispatch.{dispatch}
 use Rattle.table.proofs.Rows.{Between, between-all, between-none, between-above, between-below, row-here}
@@ -14,10 +14,10 @@ use Rattle.table.proofs.dispatch.find.Statement.{statement}
 use Rattle.table.proofs.dispatch.find.Tie as tie
 
 abbrev Inv-loop : tie.InvT-loop
-Inv-loop area cc lo₀ hi₀ place₀ lo hi place = Between dispatch (cc .0) lo hi × (lo < hi → (lo ≤ place) × (place < hi))
+Inv-loop cc lo₀ hi₀ place₀ lo hi place = Between dispatch (cc .0) lo hi × (lo < hi → (lo ≤ place) × (place < hi))
 
 abbrev μ-loop : tie.MeasureT-loop
-μ-loop area cc lo₀ hi₀ place₀ lo hi place = hi - lo
+μ-loop cc lo₀ hi₀ place₀ lo hi place = hi - lo
 
 -- in the loop: hi stands inside the table, and the look between lo and hi
 inside : (c : tie.In-loop Inv-loop μ-loop) → c .before .loop .hi ≤ 126
@@ -40,8 +40,7 @@ returns c =
     let found = c .before .before .before in
     let h = inside (found .before) in
     let at = look (found .before) in
-    ap (within (found .before .before .before .before .args .area))
-    (row-here dispatch table-rising (found .before .before .loop .place) (rw table-length (omega arith)) (found .row-at .ensures) (c .if1 .taken))
+    row-here dispatch table-rising (found .before .before .loop .place) (rw table-length (omega arith)) (found .row-at .ensures) (c .if1 .taken)
 
 add-lo : tie.Need-add-lo Inv-loop μ-loop
 add-lo c =
@@ -90,9 +89,7 @@ refused-requires : tie.Need-refused-requires Inv-loop μ-loop
 refused-requires c κs = search needs
 
 returns-2 : tie.Need-returns-2 Inv-loop μ-loop
-returns-2 c =
-    let at = c .before .before in
-    ap refuses (c .refused .ensures) ∙ ap (within (at .before .before .args .area)) (between-none (at .loop .inv .0) (c .before .loop-test .left))
+returns-2 c = ap refuses (c .refused .ensures) ∙ between-none (c .before .before .loop .inv .0) (c .before .loop-test .left)
 
 pub find-spec : {M : Type 1} → statement M
 find-spec =
