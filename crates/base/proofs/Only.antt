@@ -2,17 +2,19 @@
 -- W7), and which it has in which area (W2).
 -- Assumes nothing.
 use mathlib.Core.Path.{_≡_, refl, sym, subst}
-use mathlib.Core.Bool.{Bool, true, false, cond}
+use mathlib.Core.Bool.{Bool, true, false, Bool·beq, cond}
 use mathlib.Core.List.{List, [], _∷_}
 use Prim.Native.Nat.{ℕ, _-_}
 use borrow.Author.Tests.{eqb-false}
-use lib.Dec.{leb}
+use lib.Dec.{eqb, leb}
 use lib.ListN.{length}
 use Rattle.base.specs.declared.error.Area.{Area}
 use Rattle.base.specs.declared.error.Area.the-variants.{None}
 use Rattle.base.specs.Field.{readField, writeField, writeBytes}
-use Rattle.base.specs.Said.{Why, inArea, noArea, numberOf, Said, gives, refuses, Only, Never, needs, then, within, done}
+use Rattle.base.specs.Members.{isIn}
+use Rattle.base.specs.Said.{Why, inArea, noArea, numberOf, Said, gives, refuses, Only, otherThan, Never, NoFrame, needs, then, within, done}
 use Rattle.base.proofs.Checks.{gives≢refuses, refuses-injective}
+use Rattle.base.proofs.Tables.{every, at-member, agree}
 
 module _ {A : Type 0} {kind : Why → Type 0} where
   pub by-gives : {a : A} → Only kind (gives a)
@@ -68,13 +70,27 @@ module _ {A : Type 0} {kind : Why → Type 0} where
   pub by-wider : {other : Why → Type 0} {s : Said A} → ((why : Why) → other why → kind why) → Only other s → Only kind s
   by-wider wide p = record { each = λ why e. wide why (p .each why e) }
 
--- a step without a frame, taken in no area, is that step
-pub nowhere : {A : Type 0} {s : Said A} → Only (λ why. why .area ≡ None) s → within None s ≡ s
-nowhere {A} {s} p = by s p
+-- ---- calls without a frame
+
+pub no-frame : {numbers rest : List ℕ} {n : ℕ} → isIn n numbers ≡ true → NoFrame numbers (noArea (n ∷ rest))
+no-frame is = record { nowhere = refl; number = is }
+
+-- such a refusal has no other number
+pub frameless : {numbers : List ℕ} (k : ℕ) → every (λ n. Bool·beq (eqb n k) false) numbers ≡ true → (why : Why) → NoFrame numbers why → otherThan k why
+frameless {numbers} k all why p = agree _ _ (at-member (λ n. Bool·beq (eqb n k) false) numbers all (numberOf why) (p .number))
+
+module _ {A : Type 0} {numbers : List ℕ} {s : Said A} where
+  -- never by another number
+  pub by-no-other : (k : ℕ) → every (λ n. Bool·beq (eqb n k) false) numbers ≡ true → Only (NoFrame numbers) s → Never k s
+  by-no-other k all = by-wider (frameless k all)
+
+-- such a step, taken in no area, is that step
+pub nowhere : {A : Type 0} {numbers : List ℕ} {s : Said A} → Only (NoFrame numbers) s → within None s ≡ s
+nowhere {A} {numbers} {s} p = by s p
   where
-    by : (s : Said A) → Only (λ why. why .area ≡ None) s → within None s ≡ s
+    by : (s : Said A) → Only (NoFrame numbers) s → within None s ≡ s
     by (gives a) p = refl
-    by (refuses why) p = λ i. refuses (inArea (sym (p .each why refl) i) (why .numbers))
+    by (refuses why) p = λ i. refuses (inArea (sym (p .each why refl .nowhere) i) (why .numbers))
 
 -- no refusal has a number that an answer never has
 pub not-by : {A : Type 0} {s : Said A} {why : Why} {n : ℕ} → Never n s → s ≡ refuses why → numberOf why ≡ n → ⊥
@@ -91,14 +107,20 @@ module _ (place : ℕ) (s : List ℕ) where
         → Only kind (writeField w place n s)
     only-written w n k = by-check (leb w (length s - place)) _ k (λ h. by-gives)
 
+  pub read-frameless : (w : ℕ) → Only (NoFrame (1 ∷ [])) (readField w place s)
+  read-frameless w = only-read w (λ h. no-frame refl)
+
+  pub written-frameless : (w n : ℕ) → Only (NoFrame (9 ∷ [])) (writeField w place n s)
+  written-frameless w n = only-written w n (λ h. no-frame refl)
+
+  pub bytes-frameless : (t : List ℕ) → Only (NoFrame (9 ∷ [])) (writeBytes place t s)
+  bytes-frameless t = by-needs (leb (length t) (length s - place)) _ (no-frame refl) by-gives
+
   pub read-nowhere : (w : ℕ) → within None (readField w place s) ≡ readField w place s
-  read-nowhere w = nowhere (only-read w (λ h. refl))
+  read-nowhere w = nowhere (read-frameless w)
 
   pub never-read : (w : ℕ) → Never 7 (readField w place s)
-  never-read w = only-read w (λ h. refl)
+  never-read w = by-no-other 7 refl (read-frameless w)
 
   pub never-written : (w n : ℕ) → Never 7 (writeField w place n s)
-  never-written w n = only-written w n (λ h. refl)
-
-  pub never-bytes-written : (t : List ℕ) → Never 7 (writeBytes place t s)
-  never-bytes-written t = by-needs (leb (length t) (length s - place)) _ refl by-gives
+  never-written w n = by-no-other 7 refl (written-frameless w n)

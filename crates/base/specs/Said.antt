@@ -8,6 +8,7 @@ use lib.Dec.{eqb}
 use lib.ListN.{getD}
 use Rattle.base.specs.declared.error.Area.{Area}
 use Rattle.base.specs.declared.error.Area.the-variants.{None}
+use Rattle.base.specs.Members.{isIn}
 
 -- a refusal: the area of the frame that it speaks of, and its number, then its fields
 pub record Why : Type 0 where
@@ -72,3 +73,8 @@ otherThan n why = eqb (numberOf why) n ≡ false
 
 abbrev pub Never : {A : Type 0} → ℕ → Said A → Type 0
 Never n said = Only (otherThan n) said
+
+-- a refusal of a writer or of a call without a frame, by one of these numbers: in no area (document 02, W2)
+pub record NoFrame (numbers : List ℕ) (why : Why) : Type 0 where
+  pub nowhere : why .area ≡ None
+  pub number : isIn (numberOf why) numbers ≡ true

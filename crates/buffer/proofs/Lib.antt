@@ -1,5 +1,5 @@
 pub mod Laws
-pub mod Never
+pub mod Only
 pub mod Rooms
 pub mod Single
 pub mod Views

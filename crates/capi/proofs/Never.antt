@@ -11,14 +11,14 @@ use denote.Ref.{now}
 use denote.Triple.Clauses.{Lasts, atExit}
 use lib.Dec.{eqb}
 use Rattle.base.specs.Parts.{upTo}
-use Rattle.base.specs.Said.{Said, gives, refuses, Never}
-use Rattle.base.proofs.Only.{by-gives, by-refuses, by-cond, by-done, by-then, by-step, not-by, never-read, never-written}
-use Rattle.buffer.proofs.Never as buffer
+use Rattle.base.specs.Said.{Said, gives, refuses, Only, Never}
+use Rattle.base.proofs.Only.{by-gives, by-refuses, by-cond, by-done, by-then, by-step, not-by, by-no-other, never-read, never-written}
+use Rattle.buffer.proofs.Only as buffer
 use Rattle.frame.specs.Answer.{whole, commandByValue, responseByValue}
 use Rattle.frame.specs.Command.{Division}
 use Rattle.frame.specs.Rules.{Rulebook, bookOf}
 use Rattle.frame.proofs.Never as frame
-use Rattle.keeper.proofs.Never as keeper
+use Rattle.keeper.proofs.Only as keeper
 use Rattle.rc.proofs.Never.{never-code}
 use Rattle.table.specs.Dispatch.{dispatch}
 use Rattle.table.proofs.Only.{never-row}
@@ -177,6 +177,9 @@ never-kind n =
     (by-cond (eqb n 4) by-gives
     (by-cond (eqb n 5) by-gives (by-refuses _ refl))))))
 
+of-buffer : {A : Type 0} {said : Said A} → Only buffer.OfBuffer said → Never 7 said
+of-buffer p = by-no-other 7 refl p
+
 -- what a call gives of a reading
 by-whole : {A : Type 0} (s : List ℕ) {read : Said A} → Never 7 read → Never 7 (whole s read)
 by-whole s p = by-step _ p
@@ -209,25 +212,25 @@ skein-rc-value : NotSeven 1 skein-rc-value-kinds.ps skein-rc-value-kinds.r (λ �
 skein-rc-value κs a x v met = not-seven (by-step _ (never-kind _)) met
 
 skein-tpm2b-validate-prefix : NotSeven 2 skein-tpm2b-validate-prefix-kinds.ps skein-tpm2b-validate-prefix-kinds.r (λ κs x. x) skein-tpm2b-validate-prefix-reads.Post
-skein-tpm2b-validate-prefix κs a x v met = not-seven (buffer.never-prefix _ _) met
+skein-tpm2b-validate-prefix κs a x v met = not-seven (of-buffer (buffer.only-prefix _ _)) met
 
 skein-tpm2b-validate : NotSeven 2 skein-tpm2b-validate-kinds.ps skein-tpm2b-validate-kinds.r (λ κs x. x) skein-tpm2b-validate-reads.Post
-skein-tpm2b-validate κs a x v met = not-seven (by-done (buffer.never-whole _ _)) met
+skein-tpm2b-validate κs a x v met = not-seven (by-done (of-buffer (buffer.only-whole _ _))) met
 
 skein-tpm2b-cast : NotSeven 2 skein-tpm2b-cast-kinds.ps skein-tpm2b-cast-kinds.r (λ κs x. x) skein-tpm2b-cast-reads.Post
-skein-tpm2b-cast κs a x v met = not-seven (by-up-to (buffer.never-whole _ _)) met
+skein-tpm2b-cast κs a x v met = not-seven (by-up-to (of-buffer (buffer.only-whole _ _))) met
 
 skein-tpm2b-cast-prefix : NotSeven 2 skein-tpm2b-cast-prefix-kinds.ps skein-tpm2b-cast-prefix-kinds.r (λ κs x. x) skein-tpm2b-cast-prefix-reads.Post
-skein-tpm2b-cast-prefix κs a x v met = not-seven (by-up-to (buffer.never-prefix _ _)) met
+skein-tpm2b-cast-prefix κs a x v met = not-seven (by-up-to (of-buffer (buffer.only-prefix _ _))) met
 
 skein-tpm2b-size : NotSeven 2 skein-tpm2b-size-kinds.ps skein-tpm2b-size-kinds.r (λ κs x. x) skein-tpm2b-size-reads.Post
-skein-tpm2b-size κs a x v met = not-seven (buffer.never-size _) met
+skein-tpm2b-size κs a x v met = not-seven (of-buffer (buffer.only-size _)) met
 
 skein-tpm2b-data : NotSeven 2 skein-tpm2b-data-kinds.ps skein-tpm2b-data-kinds.r (λ κs x. x) skein-tpm2b-data-reads.Post
-skein-tpm2b-data κs a x v met = not-seven (buffer.never-data _) met
+skein-tpm2b-data κs a x v met = not-seven (of-buffer (buffer.only-data _)) met
 
 skein-tpm2b-is-empty : NotSeven 2 skein-tpm2b-is-empty-kinds.ps skein-tpm2b-is-empty-kinds.r (λ κs x. x) skein-tpm2b-is-empty-reads.Post
-skein-tpm2b-is-empty κs a x v met = not-seven (buffer.never-empty _) met
+skein-tpm2b-is-empty κs a x v met = not-seven (of-buffer (buffer.only-empty _)) met
 
 skein-tpm2b-len : NotSeven 2 skein-tpm2b-len-kinds.ps skein-tpm2b-len-kinds.r (λ κs x. x) skein-tpm2b-len-reads.Post
 skein-tpm2b-len κs a x v met = not-seven by-gives met
@@ -236,55 +239,55 @@ skein-buffer64-new : NotSeven 2 skein-buffer64-new-kinds.ps skein-buffer64-new-k
 skein-buffer64-new κs a x v met = not-seven by-gives (met .0)
 
 skein-buffer64-wire-len : NotSeven 1 skein-buffer64-wire-len-kinds.ps skein-buffer64-wire-len-kinds.r (λ κs x. x) skein-buffer64-wire-len-reads.Post
-skein-buffer64-wire-len κs a x v met = not-seven (buffer.never-wire-length _ _) met
+skein-buffer64-wire-len κs a x v met = not-seven (of-buffer (buffer.only-wire-length _ _)) met
 
 skein-buffer64-held : NotSeven 3 skein-buffer64-held-kinds.ps skein-buffer64-held-kinds.r (λ κs x. x) skein-buffer64-held-reads.Post
-skein-buffer64-held κs a x v met = not-seven (by-step _ (buffer.never-emitted _ _ _ _)) (met .0)
+skein-buffer64-held κs a x v met = not-seven (by-step _ (of-buffer (buffer.only-emitted _ _ _ _))) (met .0)
 
 skein-buffer64-marshal : NotSeven 3 skein-buffer64-marshal-kinds.ps skein-buffer64-marshal-kinds.r (λ κs x. x) skein-buffer64-marshal-reads.Post
-skein-buffer64-marshal κs a x v met = not-seven (by-step _ (buffer.never-emitted _ _ _ _)) (met .0)
+skein-buffer64-marshal κs a x v met = not-seven (by-step _ (of-buffer (buffer.only-emitted _ _ _ _))) (met .0)
 
 skein-buffer64-eq : NotSeven 3 skein-buffer64-eq-kinds.ps skein-buffer64-eq-kinds.r (λ κs x. x) skein-buffer64-eq-reads.Post
-skein-buffer64-eq κs a x v met = not-seven (buffer.never-equal _ _ _) met
+skein-buffer64-eq κs a x v met = not-seven (of-buffer (buffer.only-equal _ _ _)) met
 
 skein-buffer64-push : NotSeven 2 skein-buffer64-push-kinds.ps skein-buffer64-push-kinds.r (λ κs x. x) skein-buffer64-push-reads.Post
-skein-buffer64-push κs a x v met = not-seven (buffer.never-extended _ _ _) (met .0)
+skein-buffer64-push κs a x v met = not-seven (of-buffer (buffer.only-extended _ _ _)) (met .0)
 
 skein-buffer64-extend : NotSeven 3 skein-buffer64-extend-kinds.ps skein-buffer64-extend-kinds.r (λ κs x. x) skein-buffer64-extend-reads.Post
-skein-buffer64-extend κs a x v met = not-seven (by-step _ (buffer.never-extended _ _ _)) (met .0)
+skein-buffer64-extend κs a x v met = not-seven (by-step _ (of-buffer (buffer.only-extended _ _ _))) (met .0)
 
 skein-buffer64-from-slice : NotSeven 3 skein-buffer64-from-slice-kinds.ps skein-buffer64-from-slice-kinds.r (λ κs x. x) skein-buffer64-from-slice-reads.Post
-skein-buffer64-from-slice κs a x v met = not-seven (buffer.never-extended _ _ _) (met .0)
+skein-buffer64-from-slice κs a x v met = not-seven (of-buffer (buffer.only-extended _ _ _)) (met .0)
 
 skein-buffer64-unmarshal : NotSeven 3 skein-buffer64-unmarshal-kinds.ps skein-buffer64-unmarshal-kinds.r (λ κs x. x) skein-buffer64-unmarshal-reads.Post
-skein-buffer64-unmarshal κs a x v met = not-seven (buffer.never-prefix _ _) (met .0)
+skein-buffer64-unmarshal κs a x v met = not-seven (of-buffer (buffer.only-prefix _ _)) (met .0)
 
 skein-buffer1024-new : NotSeven 2 skein-buffer1024-new-kinds.ps skein-buffer1024-new-kinds.r (λ κs x. x) skein-buffer1024-new-reads.Post
 skein-buffer1024-new κs a x v met = not-seven by-gives (met .0)
 
 skein-buffer1024-wire-len : NotSeven 1 skein-buffer1024-wire-len-kinds.ps skein-buffer1024-wire-len-kinds.r (λ κs x. x) skein-buffer1024-wire-len-reads.Post
-skein-buffer1024-wire-len κs a x v met = not-seven (buffer.never-wire-length _ _) met
+skein-buffer1024-wire-len κs a x v met = not-seven (of-buffer (buffer.only-wire-length _ _)) met
 
 skein-buffer1024-held : NotSeven 3 skein-buffer1024-held-kinds.ps skein-buffer1024-held-kinds.r (λ κs x. x) skein-buffer1024-held-reads.Post
-skein-buffer1024-held κs a x v met = not-seven (by-step _ (buffer.never-emitted _ _ _ _)) (met .0)
+skein-buffer1024-held κs a x v met = not-seven (by-step _ (of-buffer (buffer.only-emitted _ _ _ _))) (met .0)
 
 skein-buffer1024-marshal : NotSeven 3 skein-buffer1024-marshal-kinds.ps skein-buffer1024-marshal-kinds.r (λ κs x. x) skein-buffer1024-marshal-reads.Post
-skein-buffer1024-marshal κs a x v met = not-seven (by-step _ (buffer.never-emitted _ _ _ _)) (met .0)
+skein-buffer1024-marshal κs a x v met = not-seven (by-step _ (of-buffer (buffer.only-emitted _ _ _ _))) (met .0)
 
 skein-buffer1024-eq : NotSeven 3 skein-buffer1024-eq-kinds.ps skein-buffer1024-eq-kinds.r (λ κs x. x) skein-buffer1024-eq-reads.Post
-skein-buffer1024-eq κs a x v met = not-seven (buffer.never-equal _ _ _) met
+skein-buffer1024-eq κs a x v met = not-seven (of-buffer (buffer.only-equal _ _ _)) met
 
 skein-buffer1024-push : NotSeven 2 skein-buffer1024-push-kinds.ps skein-buffer1024-push-kinds.r (λ κs x. x) skein-buffer1024-push-reads.Post
-skein-buffer1024-push κs a x v met = not-seven (buffer.never-extended _ _ _) (met .0)
+skein-buffer1024-push κs a x v met = not-seven (of-buffer (buffer.only-extended _ _ _)) (met .0)
 
 skein-buffer1024-extend : NotSeven 3 skein-buffer1024-extend-kinds.ps skein-buffer1024-extend-kinds.r (λ κs x. x) skein-buffer1024-extend-reads.Post
-skein-buffer1024-extend κs a x v met = not-seven (by-step _ (buffer.never-extended _ _ _)) (met .0)
+skein-buffer1024-extend κs a x v met = not-seven (by-step _ (of-buffer (buffer.only-extended _ _ _))) (met .0)
 
 skein-buffer1024-from-slice : NotSeven 3 skein-buffer1024-from-slice-kinds.ps skein-buffer1024-from-slice-kinds.r (λ κs x. x) skein-buffer1024-from-slice-reads.Post
-skein-buffer1024-from-slice κs a x v met = not-seven (buffer.never-extended _ _ _) (met .0)
+skein-buffer1024-from-slice κs a x v met = not-seven (of-buffer (buffer.only-extended _ _ _)) (met .0)
 
 skein-buffer1024-unmarshal : NotSeven 3 skein-buffer1024-unmarshal-kinds.ps skein-buffer1024-unmarshal-kinds.r (λ κs x. x) skein-buffer1024-unmarshal-reads.Post
-skein-buffer1024-unmarshal κs a x v met = not-seven (buffer.never-prefix _ _) (met .0)
+skein-buffer1024-unmarshal κs a x v met = not-seven (of-buffer (buffer.only-prefix _ _)) (met .0)
 
 skein-table-find : NotSeven 1 skein-table-find-kinds.ps skein-table-find-kinds.r (λ κs x. x) skein-table-find-reads.Post
 skein-table-find κs a x v met = not-seven (never-row dispatch (a .0)) met

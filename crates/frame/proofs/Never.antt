@@ -26,18 +26,18 @@ without = every (λ n. Bool·beq (eqb n 7) false)
 of-header : {xs s : List ℕ} → without xs ≡ true → (why : Why) → OfHeader xs s why → otherThan 7 why
 of-header {xs} e why p = agree _ _ (at-member (λ n. Bool·beq (eqb n 7) false) xs e (numberOf why) (p .number))
 
-of-table : {table : Area → List ℕ} {place : Area → ℕ → ℕ → Type 0} {longest : ℕ} {s : List ℕ} → ((area : Area) → without (table area) ≡ true)
+pub of-table : {table : Area → List ℕ} {place : Area → ℕ → ℕ → Type 0} {longest : ℕ} {s : List ℕ} → ((area : Area) → without (table area) ≡ true)
     → (why : Why) → Tabled table place longest s why → otherThan 7 why
 of-table {table} e why p = agree _ _ (at-member (λ n. Bool·beq (eqb n 7) false) (table (why .area)) (e (why .area)) (numberOf why) (p .number))
 
-in-commands : (area : Area) → without (commandNumbers area) ≡ true
+pub in-commands : (area : Area) → without (commandNumbers area) ≡ true
 in-commands None = refl
 in-commands Header = refl
 in-commands Handles = refl
 in-commands Authorization = refl
 in-commands Parameters = refl
 
-in-responses : (area : Area) → without (responseNumbers area) ≡ true
+pub in-responses : (area : Area) → without (responseNumbers area) ≡ true
 in-responses None = refl
 in-responses Header = refl
 in-responses Handles = refl

@@ -3,7 +3,7 @@ pub mod Exchanges
 pub mod Found
 pub mod Laws
 pub mod Moves
-pub mod Never
+pub mod Only
 pub mod Places
 pub mod Runs
 pub mod Sessions

@@ -1,5 +1,6 @@
 pub mod Calls
 pub mod CommandWriting
+pub mod Frameless
 pub mod Frames
 pub mod Judgements
 pub mod Laws
