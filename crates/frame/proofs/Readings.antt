@@ -13,8 +13,9 @@ use borrow.Author.Tests.{eqb-true}
 use lib.Dec.{eqb}
 use lib.ListN.{take}
 use Rattle.base.specs.Bytes.{AreBytes, number, bytes}
-use Rattle.base.specs.Said.{Said, gives}
+use Rattle.base.specs.Said.{Why, numberOf, Said, gives, refuses, otherThan}
 use Rattle.base.proofs.Bytes.{are-bytes-take}
+use Rattle.base.proofs.Checks.{refuses-injective}
 use Rattle.table.specs.Table.{rowFor}
 use Rattle.table.specs.declared.row.Row.{Row}
 use Rattle.frame.specs.declared.areas.Areas.{Areas}
@@ -71,6 +72,11 @@ module _ (areas : Said Areas) (k width : ℕ) (over : Areas → List ℕ) (from 
 
 -- ---- the two readings
 
+-- of answers that are alike, a refusal by another number than 8 is the same
+refused-alike : {A : Type 0} {x y : Said A} {why : Why} → (x ≡ y) ⊎ TooLong 64 x → otherThan 8 why → x ≡ refuses why → y ≡ refuses why
+refused-alike (inl same) other e = sym same ∙ e
+refused-alike (inr long) other e = absurd (false≢true (sym other ∙ ap (λ (w : Why). eqb (numberOf w) 8) (refuses-injective (sym e ∙ long .3))))
+
 module _ (rows : List Row) (known : List ℕ) where
   abbrev rust : Rulebook
   rust = bookAt rows known reading.Rust
@@ -86,6 +92,10 @@ module _ (rows : List Row) (known : List ℕ) where
     pub commands-alike : (readCommand standard s ≡ readCommand rust s) ⊎ TooLong 64 (readCommand standard s)
     unfolding readCommand castCommand judgeCommand commandAreas commandHandles readCc
     commands-alike = answers-alike (castCommand standard s) 3 4 (λ a. take (a .to) s) (λ a. a .from)
+
+    -- what is refused there by another number than 8 is refused so in the Rust's
+    pub command-refused : {why : Why} → otherThan 8 why → readCommand standard s ≡ refuses why → readCommand rust s ≡ refuses why
+    command-refused = refused-alike commands-alike
 
   -- in the Rust's reading 65,535 is no limit: by the same rules with any larger one bytes get the same answer
   module _ (other : ℕ) (larger : unlimited ≤ other) (s : List ℕ) (p : AreBytes s) where
@@ -122,6 +132,9 @@ module _ (rows : List Row) (known : List ℕ) where
       pub responses-alike : (readResponse standard cc s ≡ readResponse rust cc s) ⊎ TooLong 64 (readResponse standard cc s)
       unfolding readResponse
       responses-alike = rw areas-alike (answers-alike (responseAreas rust cc s) 3 0 (λ a. s) (λ a. a .to))
+
+      pub response-refused : {why : Why} → otherThan 8 why → readResponse standard cc s ≡ refuses why → readResponse rust cc s ≡ refuses why
+      response-refused = refused-alike responses-alike
 
     -- what passes in the Rust reading stands under no other tag
     two-others : (s : List ℕ) (d : Division) → readResponse rust cc s ≡ gives d → eqb (tagOf s) rspCommand ≡ false

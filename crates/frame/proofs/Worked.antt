@@ -7,7 +7,7 @@ use Prim.Native.Nat.{ℕ, _-_}
 use lib.ListN.{replicate}
 use Rattle.base.specs.declared.error.Area.the-variants.{Header, Handles, Authorization, Parameters}
 use Rattle.base.specs.Bytes.{number}
-use Rattle.base.specs.Said.{Why, inArea, Said, gives, refuses, then, done}
+use Rattle.base.specs.Said.{inArea, Said, gives, refuses, then, done}
 use Rattle.rc.specs.Code.{readCode, readFmt1, readFmt0, readIndex, baseOf, kindNumber, kindOf, indexOf}
 use Rattle.rc.specs.Known.{isKnown, knownCodes}
 use Rattle.table.specs.Dispatch.{dispatch}
@@ -139,10 +139,6 @@ commandBoth s = done (readCommand rust s) ∷ done (readCommand standard s) ∷ 
 abbrev responseTo : ℕ → List ℕ → List (Said (Unit {0}))
 responseTo cc s = done (readResponse rust cc s) ∷ done (readResponse standard cc s) ∷ []
 
--- refused in both alike
-abbrev twice : Why → List (Said (Unit {0}))
-twice why = refuses why ∷ refuses why ∷ []
-
 -- a nonce of 64 bytes, of 65, an HMAC of 64, of 65; a nonce that says 65 and has one; half a length; and of a response a nonce and an HMAC of 65
 pub limit-rows : commandBoth (commandWith 91 (field 64 64 ++ (0 ∷ field 0 0)))
     ∷ commandBoth (commandWith 92 (field 65 65 ++ (0 ∷ field 0 0)))
@@ -171,25 +167,32 @@ limit-rows = refl
 abbrev bare : ℕ → ℕ → ℕ → List ℕ → List ℕ
 bare size high low rest = 0x80 ∷ 0x01 ∷ 0 ∷ 0 ∷ 0 ∷ size ∷ 0 ∷ 0 ∷ high ∷ low ∷ rest
 
--- of a command, in the Rust reading and in the standard one: the header by 1, 2, 3 and 4; the handles by 1; the authorization area by 1, by 6 and, in the standard
--- reading, by 8
-pub command-pairs : commandBoth []
-    ∷ commandBoth (bare 10 0x01 0x44 (0 ∷ []))
-    ∷ commandBoth (underRspCommand 10 0x01 0x44 [])
-    ∷ commandBoth (bare 10 0x01 0x97 [])
-    ∷ commandBoth (bare 10 0x01 0x5e [])
-    ∷ commandBoth (B 0x1a 8 cutEntry)
-    ∷ commandBoth (B 0x2e 28 (entry ++ (entry ++ (entry ++ (0 ∷ [])))))
-    ∷ commandBoth (commandWith 92 (field 65 65 ++ (0 ∷ field 0 0)))
+-- in the standard reading
+abbrev refusedCommand : List ℕ → Said (Unit {0})
+refusedCommand s = done (readCommand standard s)
+
+abbrev refusedResponse : ℕ → List ℕ → Said (Unit {0})
+refusedResponse cc s = done (readResponse standard cc s)
+
+-- of a command: the header by 1, 2, 3 and 4; the handles by 1; the authorization area by 1, by 6 and by 8. All but the last are refused so in the Rust reading
+-- too (`command-refused`, Readings)
+pub command-pairs : refusedCommand []
+    ∷ refusedCommand (bare 10 0x01 0x44 (0 ∷ []))
+    ∷ refusedCommand (underRspCommand 10 0x01 0x44 [])
+    ∷ refusedCommand (bare 10 0x01 0x97 [])
+    ∷ refusedCommand (bare 10 0x01 0x5e [])
+    ∷ refusedCommand (B 0x1a 8 cutEntry)
+    ∷ refusedCommand (B 0x2e 28 (entry ++ (entry ++ (entry ++ (0 ∷ [])))))
+    ∷ refusedCommand (commandWith 92 (field 65 65 ++ (0 ∷ field 0 0)))
     ∷ []
-    ≡ twice (inArea Header (1 ∷ 0 ∷ 10 ∷ 0 ∷ []))
-    ∷ twice (inArea Header (2 ∷ 10 ∷ 1 ∷ []))
-    ∷ twice (inArea Header (3 ∷ 0 ∷ 196 ∷ []))
-    ∷ twice (inArea Header (4 ∷ 6 ∷ 0x197 ∷ []))
-    ∷ twice (inArea Handles (1 ∷ 10 ∷ 4 ∷ 0 ∷ []))
-    ∷ twice (inArea Authorization (1 ∷ 25 ∷ 2 ∷ 1 ∷ []))
-    ∷ twice (inArea Authorization (6 ∷ 45 ∷ 3 ∷ 4 ∷ []))
-    ∷ (gives tt ∷ refuses (inArea Authorization (8 ∷ 22 ∷ 64 ∷ 65 ∷ [])) ∷ [])
+    ≡ refuses (inArea Header (1 ∷ 0 ∷ 10 ∷ 0 ∷ []))
+    ∷ refuses (inArea Header (2 ∷ 10 ∷ 1 ∷ []))
+    ∷ refuses (inArea Header (3 ∷ 0 ∷ 196 ∷ []))
+    ∷ refuses (inArea Header (4 ∷ 6 ∷ 0x197 ∷ []))
+    ∷ refuses (inArea Handles (1 ∷ 10 ∷ 4 ∷ 0 ∷ []))
+    ∷ refuses (inArea Authorization (1 ∷ 25 ∷ 2 ∷ 1 ∷ []))
+    ∷ refuses (inArea Authorization (6 ∷ 45 ∷ 3 ∷ 4 ∷ []))
+    ∷ refuses (inArea Authorization (8 ∷ 22 ∷ 64 ∷ 65 ∷ []))
     ∷ []
 unfolding number dispatch tags tagOf sizeOf codeOf readCc framePrefix frameWhole readCommandTag handleArea sizedArea commandHandles commandAreas judgeCommand castCommand readCommand readTpm2b readSigned readEntry walk
 command-pairs = refl
@@ -198,28 +201,29 @@ command-pairs = refl
 abbrev ending : List ℕ
 ending = 0 ∷ 0 ∷ 1 ∷ 0 ∷ 0 ∷ []
 
--- the header by 1, 2, 3, 4 and 5; the handles, of a response to Load, by 1; the parameters by 1; the authorization area as in a command
-pub response-pairs : responseTo 0x17b []
-    ∷ responseTo 0x17b (bare 11 0x01 0x01 (0 ∷ []))
-    ∷ responseTo 0x17b (0 ∷ 0xc5 ∷ 0 ∷ 0 ∷ 0 ∷ 10 ∷ 0 ∷ 0 ∷ 0 ∷ 0 ∷ [])
-    ∷ responseTo 0x197 (bare 10 0 0 [])
-    ∷ responseTo 0x17b (bare 10 0 0xc4 [])
-    ∷ responseTo 0x157 (bare 10 0 0 [])
-    ∷ responseTo 0x17b (C 0x0a)
-    ∷ responseTo 0x17b (responseWith 20 (0 ∷ 0 ∷ []))
-    ∷ responseTo 0x17b (responseWith 34 (ending ++ (ending ++ (ending ++ (0 ∷ [])))))
-    ∷ responseTo 0x17b (responseWith 88 (field 65 65 ++ (0 ∷ field 0 0)))
+-- the header by 1, 2, 3, 4 and 5; the handles, of a response to Load, by 1; the parameters by 1; the authorization area as in a command. None stands under
+-- 0x00C4, and all but the last are refused so in the Rust reading too (`response-refused`)
+pub response-pairs : refusedResponse 0x17b []
+    ∷ refusedResponse 0x17b (bare 11 0x01 0x01 (0 ∷ []))
+    ∷ refusedResponse 0x17b (0 ∷ 0xc5 ∷ 0 ∷ 0 ∷ 0 ∷ 10 ∷ 0 ∷ 0 ∷ 0 ∷ 0 ∷ [])
+    ∷ refusedResponse 0x197 (bare 10 0 0 [])
+    ∷ refusedResponse 0x17b (bare 10 0 0xc4 [])
+    ∷ refusedResponse 0x157 (bare 10 0 0 [])
+    ∷ refusedResponse 0x17b (C 0x0a)
+    ∷ refusedResponse 0x17b (responseWith 20 (0 ∷ 0 ∷ []))
+    ∷ refusedResponse 0x17b (responseWith 34 (ending ++ (ending ++ (ending ++ (0 ∷ [])))))
+    ∷ refusedResponse 0x17b (responseWith 88 (field 65 65 ++ (0 ∷ field 0 0)))
     ∷ []
-    ≡ twice (inArea Header (1 ∷ 0 ∷ 10 ∷ 0 ∷ []))
-    ∷ twice (inArea Header (2 ∷ 10 ∷ 1 ∷ []))
-    ∷ twice (inArea Header (3 ∷ 0 ∷ 197 ∷ []))
-    ∷ twice (inArea Header (4 ∷ 0 ∷ 0x197 ∷ []))
-    ∷ twice (inArea Header (5 ∷ 6 ∷ 0xc4 ∷ []))
-    ∷ twice (inArea Handles (1 ∷ 10 ∷ 4 ∷ 0 ∷ []))
-    ∷ twice (inArea Parameters (1 ∷ 14 ∷ 10 ∷ 9 ∷ []))
-    ∷ twice (inArea Authorization (1 ∷ 20 ∷ 1 ∷ 0 ∷ []))
-    ∷ twice (inArea Authorization (6 ∷ 33 ∷ 3 ∷ 4 ∷ []))
-    ∷ (gives tt ∷ refuses (inArea Authorization (8 ∷ 18 ∷ 64 ∷ 65 ∷ [])) ∷ [])
+    ≡ refuses (inArea Header (1 ∷ 0 ∷ 10 ∷ 0 ∷ []))
+    ∷ refuses (inArea Header (2 ∷ 10 ∷ 1 ∷ []))
+    ∷ refuses (inArea Header (3 ∷ 0 ∷ 197 ∷ []))
+    ∷ refuses (inArea Header (4 ∷ 0 ∷ 0x197 ∷ []))
+    ∷ refuses (inArea Header (5 ∷ 6 ∷ 0xc4 ∷ []))
+    ∷ refuses (inArea Handles (1 ∷ 10 ∷ 4 ∷ 0 ∷ []))
+    ∷ refuses (inArea Parameters (1 ∷ 14 ∷ 10 ∷ 9 ∷ []))
+    ∷ refuses (inArea Authorization (1 ∷ 20 ∷ 1 ∷ 0 ∷ []))
+    ∷ refuses (inArea Authorization (6 ∷ 33 ∷ 3 ∷ 4 ∷ []))
+    ∷ refuses (inArea Authorization (8 ∷ 18 ∷ 64 ∷ 65 ∷ []))
     ∷ []
 unfolding number dispatch tags tagOf sizeOf codeOf readRc framePrefix frameWhole readResponseTag handleArea sizedArea judgeResponse castResponse errorAreas successAreas responseAreas readResponse readCode readFmt1 readFmt0 readIndex isKnown knownCodes readTpm2b readSigned readEntry walk
 response-pairs = refl
