@@ -55,7 +55,7 @@ use Rattle.frame.specs.Header.{
 use Rattle.frame.specs.Response.{successAreas, judgeResponse, castResponse, castResponsePrefix, errorAreas, responseAreas, readResponse, bodyRange}
 use Rattle.frame.specs.Rules.{Rulebook, unlimited}
 use Rattle.frame.specs.Walk.{behind, readTpm2b, readSigned, readEntry, walk}
-use Rattle.frame.specs.Where.{AtHeader, OfHeader, Tabled, commandNumbers, commandPlace, OfCommand, OfResponse, AtStart}
+use Rattle.frame.specs.Where.{headerPlaces, AtHeader, OfHeader, Tabled, commandNumbers, commandPlace, OfCommand, OfResponse, AtStart}
 use Rattle.frame.proofs.Divisions.{command-header, areas-fit, handles-fit, response-header}
 use Rattle.frame.proofs.EntryLaws.{field-sound, tpm2b-fits, entry-behind, entry-inside}
 use Rattle.frame.proofs.FrameLaws.{sized-order}
@@ -64,12 +64,13 @@ use Rattle.frame.proofs.Walks.{field-there}
 -- ---- the header
 
 module _ {numbers s : List ℕ} where
-  -- a number of those, in the ten bytes
-  in-ten : {number offset : ℕ} {rest : List ℕ} → isIn number numbers ≡ true → offset ≤ 10 → OfHeader numbers s (inArea Header (number ∷ offset ∷ rest))
-  in-ten is low = record { in-header = refl; number = is; place = inl low }
+  -- a number of those, at a place of its own
+  in-ten : {number offset : ℕ} {rest : List ℕ} → isIn number numbers ≡ true → isIn offset (headerPlaces number) ≡ true
+      → OfHeader numbers s (inArea Header (number ∷ offset ∷ rest))
+  in-ten is own = record { in-header = refl; number = is; place = inl own }
 
   by-header : {A : Type 0} {rest : Said A} → isIn 1 numbers ≡ true → (10 ≤ length s → Only (OfHeader numbers s) rest) → Only (OfHeader numbers s) (header s rest)
-  by-header one p = by-check (leb 10 (length s)) _ (λ h. in-ten one (omega arith)) (λ h. p (leb-true 10 (length s) h))
+  by-header one p = by-check (leb 10 (length s)) _ (λ h. in-ten one refl) (λ h. p (leb-true 10 (length s) h))
 
   -- what is written within the header is there
   by-written : (place w n : ℕ) → place + w ≤ 10 → 10 ≤ length s → Only (OfHeader numbers s) (writeField w place n s)
@@ -78,7 +79,7 @@ module _ {numbers s : List ℕ} where
   -- a missing row
   by-row : (rows : List Row) (code : ℕ) → isIn 4 numbers ≡ true → Only (OfHeader numbers s) (within Header (rowFor rows code))
   by-row rows code four =
-      by-within Header (by-wider (λ why is. subst (λ (w : Why). OfHeader numbers s (inArea Header (w .numbers))) (sym is) (in-ten four (omega arith))) (only-row rows code))
+      by-within Header (by-wider (λ why is. subst (λ (w : Why). OfHeader numbers s (inArea Header (w .numbers))) (sym is) (in-ten four refl)) (only-row rows code))
 
 -- among more numbers
 more-numbers : {xs ys s : List ℕ} {why : Why} → every (λ n. isIn n ys) xs ≡ true → OfHeader xs s why → OfHeader ys s why
@@ -89,7 +90,7 @@ more-numbers {xs} {ys} {s} {why} all p = record {
 }
 
 by-tag : (isOne : ℕ → Bool) (s : List ℕ) → Only (OfHeader (1 ∷ 3 ∷ []) s) (tagOfThose isOne s)
-by-tag isOne s = by-header refl (λ ten. by-needs (isOne (tagOf s)) _ (in-ten refl (omega arith)) by-gives)
+by-tag isOne s = by-header refl (λ ten. by-needs (isOne (tagOf s)) _ (in-ten refl refl) by-gives)
 
 module _ (s : List ℕ) where
   pub only-tag : Only (OfHeader (1 ∷ 3 ∷ []) s) (readTag s)
@@ -106,7 +107,7 @@ module _ (s : List ℕ) where
 
   pub only-set-tag : (tag : ℕ) → Only (OfHeader (1 ∷ 3 ∷ []) s) (setTag tag s)
   unfolding setTag
-  only-set-tag tag = by-header refl (λ ten. by-needs (isIn tag tags) _ (in-ten refl (omega arith)) (by-written 0 2 tag (omega arith) ten))
+  only-set-tag tag = by-header refl (λ ten. by-needs (isIn tag tags) _ (in-ten refl refl) (by-written 0 2 tag (omega arith) ten))
 
   pub only-command-tag : Only (OfHeader (1 ∷ 3 ∷ []) s) (readCommandTag s)
   unfolding readCommandTag
@@ -119,11 +120,11 @@ module _ (s : List ℕ) where
 
     pub only-cc : Only (OfHeader (1 ∷ 4 ∷ []) s) (readCc book s)
     unfolding readCc
-    only-cc = by-header refl (λ ten. by-needs (isIn (codeOf s) (book .known)) _ (in-ten refl (omega arith)) by-gives)
+    only-cc = by-header refl (λ ten. by-needs (isIn (codeOf s) (book .known)) _ (in-ten refl refl) by-gives)
 
     pub only-rc : Only (OfHeader (1 ∷ 5 ∷ []) s) (readRc book s)
     unfolding readRc
-    only-rc = by-header refl (λ ten. by-needs (reads book (tagOf s) (codeOf s)) _ (in-ten refl (omega arith)) by-gives)
+    only-rc = by-header refl (λ ten. by-needs (reads book (tagOf s) (codeOf s)) _ (in-ten refl refl) by-gives)
 
     module _ (code : ℕ) where
       pub only-set-cc : Only (OfHeader (1 ∷ 4 ∷ []) s) (setCc book code s)
@@ -132,15 +133,17 @@ module _ (s : List ℕ) where
 
       pub only-set-rc : Only (OfHeader (1 ∷ 5 ∷ []) s) (setRc book code s)
       unfolding setRc
-      only-set-rc = by-header refl (λ ten. by-needs (reads book (tagOf s) code) _ (in-ten refl (omega arith)) (by-written 6 4 code (omega arith) ten))
+      only-set-rc = by-header refl (λ ten. by-needs (reads book (tagOf s) code) _ (in-ten refl refl) (by-written 6 4 code (omega arith) ten))
 
   -- the envelope: 1 at the end of the bytes, 2 at the end of the frame
   pub only-prefix : Only (OfHeader (1 ∷ []) s) (framePrefix s)
   unfolding framePrefix
   only-prefix =
       by-header refl λ ten.
-      by-needs (leb 10 (sizeOf s)) _ (in-ten refl (omega arith))
-      (by-needs (leb (sizeOf s) (length s)) _ (record { in-header = refl; number = refl; place = inr (inl (refl, refl)) }) by-gives)
+      by-needs (leb 10 (sizeOf s)) _ (in-ten refl refl)
+      (by-check (leb (sizeOf s) (length s)) _
+      (λ few. record { in-header = refl; number = refl; place = inr (inl (refl, refl, leb-false (sizeOf s) (length s) few)) })
+      (λ all. by-gives))
 
   prefix-size : {n : ℕ} → framePrefix s ≡ gives n → sizeOf s ≡ n
   unfolding framePrefix
@@ -153,7 +156,12 @@ module _ (s : List ℕ) where
   unfolding frameWhole
   only-whole =
       by-step-to (by-wider (λ why. more-numbers refl) only-prefix) λ n e.
-      by-needs (leb (length s) n) _ (record { in-header = refl; number = refl; place = inr (inr (refl, sym (prefix-size e))) }) by-gives
+      by-check (leb (length s) n) _
+      (λ more.
+      let size = prefix-size e in
+      let above = leb-false (length s) n more in
+      record { in-header = refl; number = refl; place = inr (inr (refl, sym size, omega arith)) })
+      (λ all. by-gives)
 
 -- ---- what commands and responses share, in any table that has it
 
@@ -262,7 +270,7 @@ module _ (book : Rulebook) (s : List ℕ) where
   early-areas =
       by-step-to only-handles λ h e.
       let fits = command-header book s (sym e) in
-      by-needs (isIn (tagOf s) tags) _ (tabled refl (inl (omega arith)) refl)
+      by-needs (isIn (tagOf s) tags) _ (tabled refl (inl refl) refl)
       (only-sized Authorization refl h h (fits .2) (λ offset low high. (h, e, low, high)) (eqb (tagOf s) sessions))
 
   -- so it is known
@@ -348,8 +356,8 @@ module _ (book : Rulebook) (s : List ℕ) where
   only-error : Only (OfHeader (2 ∷ 3 ∷ []) s) (errorAreas book s)
   unfolding errorAreas
   only-error =
-      by-needs (eqb (tagOf s) plain || isRspCommand book (tagOf s)) _ (in-ten refl (omega arith))
-      (by-needs (leb (length s) 10) _ (in-ten refl (omega arith)) by-gives)
+      by-needs (eqb (tagOf s) plain || isRspCommand book (tagOf s)) _ (in-ten refl refl)
+      (by-needs (leb (length s) 10) _ (in-ten refl refl) by-gives)
 
   module _ (cc : ℕ) where
     -- success, in the row of the command

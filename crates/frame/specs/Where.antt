@@ -3,9 +3,10 @@
 -- Assumes nothing: these are definitions.
 use Prim.Native.Nat.{ℕ, _≤_, _<_}
 use mathlib.Core.Path.{_≡_}
-use mathlib.Core.Bool.{true}
+use mathlib.Core.Bool.{true, cond}
 use mathlib.Core.List.{List, [], _∷_}
 use mathlib.Core.Logic.{_⊎_}
+use lib.Dec.{eqb}
 use lib.ListN.{length, take}
 use Rattle.base.specs.declared.error.Area.{Area}
 use Rattle.base.specs.declared.error.Area.the-variants.{None, Header, Handles, Authorization, Parameters}
@@ -22,9 +23,17 @@ use Rattle.frame.specs.Rules.{Rulebook, unlimited}
 
 -- ---- the header
 
--- in its ten bytes or at their end; at the end of bytes that are fewer than the frame's (1), or of a frame that has bytes behind it (2)
+-- the places of its own that a number names: the start or the size field (1), the end, where an error has bytes behind it (2), the tag (3), the code, or 0 where
+-- it is the caller's (4 and 5)
+abbrev pub headerPlaces : ℕ → List ℕ
+headerPlaces number = cond (eqb number 1) (0 ∷ 2 ∷ []) (cond (eqb number 2) (10 ∷ []) (cond (eqb number 3) (0 ∷ []) (0 ∷ 6 ∷ [])))
+
+-- at one of these; at the end of bytes that are fewer than the frame's (1), or of a frame that has bytes behind it (2)
 abbrev pub AtHeader : List ℕ → ℕ → ℕ → Type 0
-AtHeader s number offset = (offset ≤ 10) ⊎ (((number ≡ 1) × (offset ≡ length s)) ⊎ ((number ≡ 2) × (offset ≡ sizeOf s)))
+AtHeader s number offset =
+    (isIn offset (headerPlaces number) ≡ true)
+    ⊎ (((number ≡ 1) × (offset ≡ length s) × (length s < sizeOf s))
+    ⊎ ((number ≡ 2) × (offset ≡ sizeOf s) × (sizeOf s < length s)))
 
 -- a refusal of the header, by one of these numbers
 pub record OfHeader (numbers s : List ℕ) (why : Why) : Type 0 where
