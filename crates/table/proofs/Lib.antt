@@ -1,5 +1,6 @@
 pub mod Answers
 pub mod Only
+pub mod Revisions
 pub mod Rows
 pub mod Single
 pub mod Table

@@ -16,18 +16,14 @@ use Rattle.base.specs.Members.{isIn}
 use Rattle.base.specs.Said.{noArea, Said, gives, refuses, given}
 use Rattle.base.proofs.Checks.{gives≢refuses, gives-injective, cond-gives}
 use Rattle.table.specs.declared.row.Row.{Row}
-use Rattle.table.specs.Table.{rowFor, codes, belowFirst, rising, few, part, none}
+use Rattle.table.specs.Table.{rowFor, codes, belowFirst, rising, few, IsTable, part, none, codeAt, Between}
 
--- the code at a place
-abbrev pub codeAt : List Row → ℕ → ℕ
-codeAt rows i = getD rows i none .code
-
--- the row at a place stands in the part of its eight
-pub in-part : (rows : List Row) (k place : ℕ) → place / 8 ≡ k → getD (part rows k) (place % 8) none ≡ getD rows place none
+-- the row at a place stands in the part of its four
+pub in-part : (rows : List Row) (k place : ℕ) → place / 4 ≡ k → getD (part rows k) (place % 4) none ≡ getD rows place none
 in-part rows k place e =
-    let here : 8 * k + place % 8 ≡ place = omega arith in
-    getD-take 8 (drop (8 * k) rows) (place % 8) none (omega arith)
-    ∙ getD-drop (8 * k) rows (place % 8) none
+    let here : 4 * k + place % 4 ≡ place = omega arith in
+    getD-take 4 (drop (4 * k) rows) (place % 4) none (omega arith)
+    ∙ getD-drop (4 * k) rows (place % 4) none
     ∙ ap (λ (i : ℕ). getD rows i none) here
 
 -- rising rows: the first row's code is below the next one's, and the others rise
@@ -78,12 +74,6 @@ pub no-row : (rows : List Row) (code : ℕ) → ((k : ℕ) → k < length rows �
 no-row [] code h = refl
 no-row (r ∷ rows) code h =
     simp (ne-eqb code (r .code) (h 0 (suc-le-suc zero-le))) (no-row rows code (λ k l. h (suc k) (suc-le-suc l)))
-
--- the row of a code stands from lo to before hi, if anywhere
-pub record Between (rows : List Row) (code lo hi : ℕ) : Type 0 where
-  pub inside : hi ≤ length rows
-  pub before : (k : ℕ) → k < lo → codeAt rows k < code
-  pub behind : (k : ℕ) → hi ≤ k → k < length rows → code < codeAt rows k
 
 -- all the rows
 pub between-all : (rows : List Row) (code : ℕ) → Between rows code 0 (length rows)
@@ -138,3 +128,11 @@ module _ (code : ℕ) where
   pub row-given : (rows : List Row) → given (rowFor rows code) ≡ isIn code (codes rows)
   row-given [] = refl
   row-given (r ∷ rows) = given-or (eqb code (r .code)) r (rowFor rows code) (isIn code (codes rows)) (row-given rows)
+
+-- of a table: a row that is found has few handles, and its code is known
+module _ {rows : List Row} {known : List ℕ} (table : IsTable rows known) (code : ℕ) {r : Row} (found : rowFor rows code ≡ gives r) where
+  pub found-few : (r .handles ≤ 7) × (r .responses ≤ 7)
+  found-few = row-few code rows (table .has-few) found
+
+  pub row-known : isIn code known ≡ true
+  row-known = table .holds code (sym (row-given code rows) ∙ ap given found)

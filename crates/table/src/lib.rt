@@ -1,5 +1,6 @@
-// The dispatch table and its search, and the tags that TpmSt has.
+// The tables of commands and their search, and the tags that TpmSt has.
 pub mod dispatch;
 mod parts;
+pub mod revision;
 pub mod row;
 pub mod tag;

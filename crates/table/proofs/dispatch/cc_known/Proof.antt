@@ -4,7 +4,7 @@ use mathlib.Core.Path.{ap, _∙_}
 use borrow.Author.Needs.{needs}
 use Rattle.base.specs.Said.{given}
 use Rattle.base.proofs.Answers.{learnt}
-use Rattle.table.specs.Dispatch.{dispatch}
+use Rattle.table.specs.Dispatch.{tableOf}
 use Rattle.table.specs.Table.{saidFound}
 use Rattle.table.proofs.Rows.{row-given}
 use Rattle.table.proofs.dispatch.cc_known.Statement.{statement}
@@ -20,10 +20,10 @@ enum-told-2 : tie.Need-enum-told-2
 enum-told-2 c = search needs
 
 returns : tie.Need-returns
-returns c = ap given (learnt saidFound (c .enum-told .given .1) (c .before .before .find .ensures)) ∙ row-given (c .before .before .before .args .cc .0) dispatch
+returns c = ap given (learnt saidFound (c .enum-told .given .1) (c .before .before .find .ensures)) ∙ row-given (c .before .before .before .args .cc .0) (tableOf (c .before .before .before .args .revision))
 
 returns-2 : tie.Need-returns-2
-returns-2 c = ap given (learnt saidFound (c .enum-told2 .given .1) (c .before .before .find .ensures)) ∙ row-given (c .before .before .before .args .cc .0) dispatch
+returns-2 c = ap given (learnt saidFound (c .enum-told2 .given .1) (c .before .before .find .ensures)) ∙ row-given (c .before .before .before .args .cc .0) (tableOf (c .before .before .before .args .revision))
 
 pub cc-known-spec : {M : Type 1} → statement M
 cc-known-spec = tie.close (tie.spec find-requires enum-told enum-told-2 returns returns-2)

@@ -7,40 +7,48 @@ use native.Mathlib.Omega.{arith}
 use borrow.Author.Needs.{needs}
 use Rattle.base.specs.Said.{refuses}
 use Rattle.table.specs.declared.row.Row.{Row}
-use Rattle.table.specs.Dispatch.{dispatch}
-use Rattle.table.proofs.Rows.{Between, between-all, between-none, between-above, between-below, row-here}
-use Rattle.table.proofs.Table.{table-rising, table-length}
+use Rattle.table.specs.Dispatch.{tableOf}
+use Rattle.table.specs.Table.{Between}
+use Rattle.table.proofs.Rows.{between-none, between-above, between-below, row-here}
+use Rattle.table.proofs.Table.{at-most, table-rising}
 use Rattle.table.proofs.dispatch.find.Statement.{statement}
 use Rattle.table.proofs.dispatch.find.Tie as tie
 
 abbrev Inv-loop : tie.InvT-loop
-Inv-loop cc lo₀ hi₀ place₀ lo hi place = Between dispatch (cc .0) lo hi × (lo < hi → (lo ≤ place) × (place < hi))
+Inv-loop revision cc lo₀ hi₀ place₀ lo hi place = Between (tableOf revision) (cc .0) lo hi × (lo < hi → (lo ≤ place) × (place < hi))
 
 abbrev μ-loop : tie.MeasureT-loop
-μ-loop cc lo₀ hi₀ place₀ lo hi place = hi - lo
+μ-loop revision cc lo₀ hi₀ place₀ lo hi place = hi - lo
 
 -- in the loop: hi stands inside the table, and the look between lo and hi
 inside : (c : tie.In-loop Inv-loop μ-loop) → c .before .loop .hi ≤ 126
-inside c = rw table-length at (c .before .loop .inv .0 .inside)
+inside c =
+    let here = c .before .loop .inv .0 .inside in
+    let most = at-most (c .before .before .before .args .revision) in
+    omega arith
 
 look : (c : tie.In-loop Inv-loop μ-loop) → (c .before .loop .lo ≤ c .before .loop .place) × (c .before .loop .place < c .before .loop .hi)
 look c = c .before .loop .inv .1 (c .loop-test .taken)
 
-guess-requires : tie.Need-guess-requires Inv-loop μ-loop
-guess-requires c κs = search needs
+begin-requires : tie.Need-begin-requires Inv-loop μ-loop
+begin-requires c κs = search needs
 
 loop-holds : tie.Need-loop-holds Inv-loop μ-loop
-loop-holds c = (rw table-length at (between-all dispatch (c .before .args .cc .0)), λ some. (omega arith, c .guess .ensures))
+loop-holds c = let at = c .begin .ensures in (at .0, λ some. (at .1, at .2))
 
 row-at-requires : tie.Need-row-at-requires Inv-loop μ-loop
-row-at-requires c κs = let h = inside c in let at = look c in omega arith
+row-at-requires c κs =
+    let here = c .before .loop .inv .0 .inside in
+    let at = look c in
+    omega arith
 
 returns : tie.Need-returns Inv-loop μ-loop
 returns c =
     let found = c .before .before .before in
-    let h = inside (found .before) in
+    let here = found .before .before .loop .inv .0 .inside in
     let at = look (found .before) in
-    row-here dispatch table-rising (found .before .before .loop .place) (rw table-length (omega arith)) (found .row-at .ensures) (c .if1 .taken)
+    let rows = c .before .before .before .before .before .before .before .args .revision in
+    row-here (tableOf rows) (table-rising rows) (found .before .before .loop .place) (omega arith) (found .row-at .ensures) (c .if1 .taken)
 
 add-lo : tie.Need-add-lo Inv-loop μ-loop
 add-lo c =
@@ -58,7 +66,7 @@ loop-again c =
     let turn = read .before in
     let at = look turn in
     let here = ap (λ (r : Row). r .code) (read .row-at .ensures) in (
-      between-above (turn .before .loop .inv .0) table-rising (turn .before .loop .place) (at .1) (rw (← here) (c .if2 .taken)),
+      between-above (turn .before .loop .inv .0) (table-rising _) (turn .before .loop .place) (at .1) (rw (← here) (c .if2 .taken)),
       λ some. (omega arith, omega arith),
     )
 
@@ -81,7 +89,7 @@ loop-again-2 c =
     let turn = read .before in
     let at = look turn in
     let here = ap (λ (r : Row). r .code) (read .row-at .ensures) in (
-      between-below (turn .before .loop .inv .0) table-rising (turn .before .loop .place) (at .1) (rw (← here) (omega arith)),
+      between-below (turn .before .loop .inv .0) (table-rising _) (turn .before .loop .place) (at .1) (rw (← here) (omega arith)),
       λ some. (omega arith, omega arith),
     )
 
@@ -97,7 +105,7 @@ find-spec =
     (tie.spec
     Inv-loop
     μ-loop
-    guess-requires
+    begin-requires
     loop-holds
     row-at-requires
     returns
