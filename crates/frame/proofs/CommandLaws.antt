@@ -18,7 +18,8 @@ use Rattle.base.specs.Said.{within, gives}
 use Rattle.base.proofs.Bytes.{are-bytes-take, are-bytes-drop}
 use Rattle.base.proofs.Checks.{needs-gives, then-gives, then-within, gives-injective}
 use Rattle.base.proofs.Places.{At}
-use Rattle.table.specs.Table.{rowFor}
+use Rattle.table.specs.Table.{rowFor, IsTable}
+use Rattle.table.proofs.Rows.{row-known}
 use Rattle.table.specs.Tags.{tags}
 use Rattle.table.specs.declared.row.Row.{Row}
 use Rattle.frame.specs.declared.areas.Areas.{Areas}
@@ -54,6 +55,7 @@ use Rattle.frame.proofs.FrameLaws.{
   plain-places,
   frame-again,
   sized-complete,
+  two-tags,
 }
 use Rattle.frame.proofs.Standing.{between-at, at-between, at-within, at-inside, length-entries}
 use Rattle.frame.proofs.WalkLaws.{walk-sound, walk-few, walk-complete, walk-within, walk-end, each-field, walk-inside}
@@ -261,8 +263,7 @@ module _ (book : Rulebook) where
 
   -- ---- the layout of well-formed parts passes, and they are the parts read
 
-  module _ (holds : (code : ℕ) (r : Row) → rowFor (book .rows) code ≡ gives r → isIn code (book .known) ≡ true)
-      (two-tags : (tag : ℕ) → isOfTwo tag ≡ true → isIn tag tags ≡ true) where
+  module _ (table : IsTable (book .rows) (book .known)) where
     module _ (f : Frame) (row : Row) (found : rowFor (book .rows) (f .code) ≡ gives row) (w : WellFormed (book .longest) 4 (row .handles) f) (s : List ℕ)
         (framed : Framed s (f .tag) (f .code) (layoutBody (f .tag) (f .handles) (layoutEntries 4 (f .entries)) (f .parameters))) where
       module _ (areas : Areas) (held : Holds s areas (f .handles) (layoutEntries 4 (f .entries)) (f .parameters))
@@ -283,7 +284,7 @@ module _ (book : Rulebook) where
                 size-is = framed .size-is;
                 tag-two = rw tag (is-of-two (f .tag) (w .tag-of-two));
                 tag-known = rw tag (two-tags (f .tag) (is-of-two (f .tag) (w .tag-of-two)));
-                code-known = rw code (holds (f .code) row found);
+                code-known = rw code (row-known table (f .code) found);
                 has-row = rw code found;
                 room = omega arith;
                 sized = rw tag sized;

@@ -1,8 +1,7 @@
 -- Demand 3 by the rules that a caller names, of what is given back by value and of what callers are answered. The laws of what is read
--- hold by any rules, and for commands by any whose known codes have the rows' codes (CommandLaws, ResponseLaws).
+-- hold by any rules, and for commands by any table (CommandLaws, ResponseLaws).
 -- Assumes nothing.
 use mathlib.Core.Path.{_≡_, refl, sym, _∙_, ap}
-use mathlib.Core.Bool.{true}
 use mathlib.Core.List.{List}
 use mathlib.Core.Logic.{_↔_}
 use Prim.Native.Nat.{ℕ}
@@ -14,14 +13,10 @@ use denote.Triple.Clauses.{Lasts, atExit}
 use Rattle.base.specs.declared.answer.Outcome.the-variants as outcome
 use Rattle.base.specs.Bytes.{AreBytes}
 use Rattle.base.specs.Parts.{heldAt}
-use Rattle.base.specs.Members.{isIn}
 use Rattle.base.specs.Said.{gives}
-use Rattle.table.specs.Dispatch.{dispatch, commandCodes}
 use Rattle.frame.specs.declared.rules.Reading.the-variants as reading
 use Rattle.frame.specs.declared.rules.Rules.{Rules}
-use Rattle.table.specs.Table.{rowFor}
-use Rattle.table.specs.declared.row.Row.{Row}
-use Rattle.table.proofs.Table.{row-known}
+use Rattle.table.proofs.Table.{is-table}
 use Rattle.frame.specs.declared.command.Command.{Command}
 use Rattle.frame.specs.declared.command.CommandRead.the-variants as command
 use Rattle.frame.specs.declared.response.Response.{Response}
@@ -35,7 +30,6 @@ use Rattle.frame.specs.Rules.{bookOf}
 use Rattle.frame.proofs.CommandLaws as over
 use Rattle.frame.proofs.ResponseLaws as over-one
 use Rattle.frame.proofs.Divides.{Divides, Tells, tells, done-exactly, done-valued}
-use Rattle.frame.proofs.FrameLaws.{two-tags}
 use Rattle.frame.proofs.Single.{saidCommand-injective, saidResponse-injective}
 use Rattle.frame.proofs.command.validate.Kinds as command-validate-kinds
 use Rattle.frame.proofs.command.validate.Reads as command-validate-reads
@@ -46,14 +40,11 @@ use Rattle.frame.proofs.response.validate.Reads as response-validate-re
 use Rattle.frame.proofs.response.parts.Kinds as response-parts-kinds
 use Rattle.frame.proofs.response.parts.Reads as response-parts-reads
 
-has-code : (code : ℕ) (r : Row) → rowFor dispatch code ≡ gives r → isIn code commandCodes ≡ true
-has-code code r found = row-known code found
-
 -- ---- what is read: it divides as the layout says, and the authorization area holds the entries
 
 module _ (rules : Rules) where
   pub command-divides : Divides (λ s. commandByValue s (readCommand (bookOf rules) s)) commandParts layoutCommand (CommandParts (bookOf rules))
-  command-divides = over.command-divides (bookOf rules) has-code two-tags
+  command-divides = over.command-divides (bookOf rules) (is-table (rules .revision))
 
   pub command-auth : (s : List ℕ) → AreBytes s → (c : Command) → commandByValue s (readCommand (bookOf rules) s) ≡ gives c
       → heldAt (c .auth) s ≡ layoutEntries 4 (commandParts s c .entries)

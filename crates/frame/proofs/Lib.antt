@@ -11,6 +11,7 @@ pub mod Never
 pub mod Readings
 pub mod Refused
 pub mod ResponseLaws
+pub mod Revisions
 pub mod RulesByValue
 pub mod Single
 pub mod Standing

@@ -72,7 +72,7 @@ module _ (limit other : ℕ) (looser : limit ≤ other) where
 
 -- ---- the Rust's limit is none: by every looser one bytes are read the same
 
-same-then : {A B : Type 0} (x : Said A) (f g : A → Said B) → ((a : A) → x ≡ gives a → f a ≡ g a) → then x f ≡ then x g
+pub same-then : {A B : Type 0} (x : Said A) (f g : A → Said B) → ((a : A) → x ≡ gives a → f a ≡ g a) → then x f ≡ then x g
 same-then (gives a) f g h = h a refl
 same-then (refuses why) f g h = refl
 

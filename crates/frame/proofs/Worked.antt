@@ -10,7 +10,8 @@ use Rattle.base.specs.Bytes.{number}
 use Rattle.base.specs.Said.{inArea, Said, gives, refuses, then, done}
 use Rattle.rc.specs.Code.{readCode, readFmt1, readFmt0, readIndex, baseOf, kindNumber, kindOf, indexOf}
 use Rattle.rc.specs.Known.{isKnown, knownCodes}
-use Rattle.table.specs.Dispatch.{dispatch}
+use Rattle.table.specs.declared.revision.Revision.the-variants as revision
+use Rattle.table.specs.Dispatch.{tableOf}
 use Rattle.table.specs.Tags.{tags}
 use Rattle.base.specs.declared.part.Span.{Span}
 use Rattle.frame.specs.Answer.{commandByValue, responseByValue, whole}
@@ -26,10 +27,10 @@ use Rattle.frame.specs.Walk.{readTpm2b, readSigned, readEntry, walk}
 
 -- the two readings
 abbrev pub rust : Rulebook
-rust = bookOf (record { reading = reading.Rust })
+rust = bookOf (record { reading = reading.Rust; revision = revision.Crate })
 
 abbrev pub standard : Rulebook
-standard = bookOf (record { reading = reading.Standard })
+standard = bookOf (record { reading = reading.Standard; revision = revision.Crate })
 
 -- a call with what it is given; a response with the code of the command that it answers
 pub data Asked : Type 0 where
@@ -82,7 +83,7 @@ C size =
 -- ---- a fourth entry is refused before it is read: 01's row of B with three entries and a byte, which has no star
 
 pub fourth-entry : answer (validate-command (B 0x2e 28 (entry ++ (entry ++ (entry ++ (0 ∷ [])))))) ≡ refuses (inArea Authorization (6 ∷ 45 ∷ 3 ∷ 4 ∷ []))
-unfolding number dispatch tags tagOf sizeOf codeOf readCc framePrefix frameWhole readCommandTag handleArea sizedArea commandHandles commandAreas judgeCommand castCommand readCommand readTpm2b readSigned readEntry walk
+unfolding number tableOf tags tagOf sizeOf codeOf readCc framePrefix frameWhole readCommandTag handleArea sizedArea commandHandles commandAreas judgeCommand castCommand readCommand readTpm2b readSigned readEntry walk
 fourth-entry = refl
 
 -- ---- the answer to a bad tag (document 02, W5)
@@ -114,7 +115,7 @@ pub bad-tag-rows : judgedBy rust 0x15e (underRspCommand 10 0 0x1e [])
     ∷ (gives tt ∷ refuses (inArea Header (4 ∷ 0 ∷ 0x197 ∷ [])) ∷ [])
     ∷ (gives tt ∷ refuses (inArea Header (4 ∷ 0 ∷ 0x197 ∷ [])) ∷ [])
     ∷ []
-unfolding number dispatch tagOf sizeOf codeOf framePrefix frameWhole readResponseTag readRc judgeResponse castResponse errorAreas responseAreas readResponse walk
+unfolding number tableOf tagOf sizeOf codeOf framePrefix frameWhole readResponseTag readRc judgeResponse castResponse errorAreas responseAreas readResponse walk
 bad-tag-rows = refl
 
 -- ---- nonces and HMACs of at most 64 bytes (document 02, W6)
@@ -158,7 +159,7 @@ pub limit-rows : commandBoth (commandWith 91 (field 64 64 ++ (0 ∷ field 0 0)))
     ∷ (gives tt ∷ refuses (inArea Authorization (8 ∷ 18 ∷ 64 ∷ 65 ∷ [])) ∷ [])
     ∷ (gives tt ∷ refuses (inArea Authorization (8 ∷ 21 ∷ 64 ∷ 65 ∷ [])) ∷ [])
     ∷ []
-unfolding number dispatch tags tagOf sizeOf codeOf readCc readRc framePrefix frameWhole readCommandTag readResponseTag handleArea sizedArea commandHandles commandAreas judgeCommand castCommand readCommand judgeResponse castResponse successAreas responseAreas readResponse readCode readFmt0 isKnown knownCodes readTpm2b readSigned readEntry walk
+unfolding number tableOf tags tagOf sizeOf codeOf readCc readRc framePrefix frameWhole readCommandTag readResponseTag handleArea sizedArea commandHandles commandAreas judgeCommand castCommand readCommand judgeResponse castResponse successAreas responseAreas readResponse readCode readFmt0 isKnown knownCodes readTpm2b readSigned readEntry walk
 limit-rows = refl
 
 -- ---- each line of the tables of refusals occurs (document 02, W2)
@@ -194,7 +195,7 @@ pub command-pairs : refusedCommand []
     ∷ refuses (inArea Authorization (6 ∷ 45 ∷ 3 ∷ 4 ∷ []))
     ∷ refuses (inArea Authorization (8 ∷ 22 ∷ 64 ∷ 65 ∷ []))
     ∷ []
-unfolding number dispatch tags tagOf sizeOf codeOf readCc framePrefix frameWhole readCommandTag handleArea sizedArea commandHandles commandAreas judgeCommand castCommand readCommand readTpm2b readSigned readEntry walk
+unfolding number tableOf tags tagOf sizeOf codeOf readCc framePrefix frameWhole readCommandTag handleArea sizedArea commandHandles commandAreas judgeCommand castCommand readCommand readTpm2b readSigned readEntry walk
 command-pairs = refl
 
 -- an entry of a response
@@ -225,5 +226,5 @@ pub response-pairs : refusedResponse 0x17b []
     ∷ refuses (inArea Authorization (6 ∷ 33 ∷ 3 ∷ 4 ∷ []))
     ∷ refuses (inArea Authorization (8 ∷ 18 ∷ 64 ∷ 65 ∷ []))
     ∷ []
-unfolding number dispatch tags tagOf sizeOf codeOf readRc framePrefix frameWhole readResponseTag handleArea sizedArea judgeResponse castResponse errorAreas successAreas responseAreas readResponse readCode readFmt1 readFmt0 readIndex isKnown knownCodes readTpm2b readSigned readEntry walk
+unfolding number tableOf tags tagOf sizeOf codeOf readRc framePrefix frameWhole readResponseTag handleArea sizedArea judgeResponse castResponse errorAreas successAreas responseAreas readResponse readCode readFmt1 readFmt0 readIndex isKnown knownCodes readTpm2b readSigned readEntry walk
 response-pairs = refl

@@ -1,10 +1,10 @@
--- The rules by which a frame is judged (document 02, W5 and W6): what the definitions of reading, layout and writing take, and which rules
+-- The rules by which a frame is judged (document 02, W5, W6 and W10): what the definitions of reading, layout and writing take, and which rules
 -- a caller names.
 -- Assumes nothing: these are definitions.
 use Prim.Native.Nat.{ℕ}
 use mathlib.Core.Bool.{Bool, true, false}
 use mathlib.Core.List.{List}
-use Rattle.table.specs.Dispatch.{commandCodes, dispatch}
+use Rattle.table.specs.Dispatch.{codesOf, tableOf}
 use Rattle.table.specs.declared.row.Row.{Row}
 use Rattle.frame.specs.declared.rules.Reading.{Reading}
 use Rattle.frame.specs.declared.rules.Reading.the-variants as reading
@@ -35,6 +35,6 @@ longestOf reading.Standard = 64
 abbrev pub bookAt : List Row → List ℕ → Reading → Rulebook
 bookAt rows known by = record { rows = rows; known = known; answersBadTag = admitsBadTag by; longest = longestOf by }
 
--- the rules that a caller names, at the crate's table
+-- the rules that a caller names: a reading, at a table (W10)
 abbrev pub bookOf : Rules → Rulebook
-bookOf rules = bookAt dispatch commandCodes (rules .reading)
+bookOf rules = bookAt (tableOf (rules .revision)) (codesOf (rules .revision)) (rules .reading)

@@ -68,7 +68,7 @@ pub enum CommandSessions {
 
 // ---- the code
 
-// The command code, one that TpmCc has.
+// The command code, one that is known.
 pub fn cc(rules: Rules, s: &[u8]) -> CommandCode
     ensures { λ r. ⌜ saidCommandCode r ≡ readCc (bookOf rules) (now (s .entry)) ⌝ }
 {
@@ -76,7 +76,8 @@ pub fn cc(rules: Rules, s: &[u8]) -> CommandCode
         return CommandCode::Refused(short(s.len()));
     }
     let cc = TpmCc(be32(s[6], s[7], s[8], s[9]));
-    if cc_known(cc) {
+    let revision = rules.revision;
+    if cc_known(revision, cc) {
         CommandCode::Is(cc)
     } else {
         CommandCode::Refused(cc.refused(Area::Header, 6))
@@ -91,7 +92,8 @@ pub fn set_cc(rules: Rules, s: &mut [u8], cc: TpmCc) -> Outcome
     if s.len() < HEADER_SIZE {
         return Outcome::Refused(short(s.len()));
     }
-    match find(cc) {
+    let revision = rules.revision;
+    match find(revision, cc) {
         Found::Refused(_) => Outcome::Refused(cc.refused(Area::Header, 0)),
         Found::Is(_) => write_u32(s, 6, cc.0),
     }
@@ -99,7 +101,7 @@ pub fn set_cc(rules: Rules, s: &mut [u8], cc: TpmCc) -> Outcome
 
 // ---- the areas
 
-// Where the handles end. A code with a row is known, so the row is looked for first.
+// Where the handles end. The known codes are those with a row, by every table that can be named: so a code without one is not known.
 fn handles_end(rules: Rules, s: &[u8]) -> Count
     ensures { λ r. ⌜ saidCount r ≡ commandHandles (bookOf rules) (now (s .entry)) ⌝ }
 {
@@ -107,15 +109,10 @@ fn handles_end(rules: Rules, s: &[u8]) -> Count
         return Count::Refused(short(s.len()));
     }
     let cc = TpmCc(be32(s[6], s[7], s[8], s[9]));
-    match find(cc) {
+    let revision = rules.revision;
+    match find(revision, cc) {
         Found::Is(row) => handle_area(row.handles, s),
-        Found::Refused(_) => {
-            if cc_known(cc) {
-                Count::Refused(cc.refused(Area::Header, 0))
-            } else {
-                Count::Refused(cc.refused(Area::Header, 6))
-            }
-        }
+        Found::Refused(_) => Count::Refused(cc.refused(Area::Header, 6)),
     }
 }
 

@@ -291,9 +291,10 @@ fn error_areas(rules: Rules, s: &[u8]) -> Divided
 fn areas(rules: Rules, cc: TpmCc, s: &[u8]) -> Divided
     ensures { λ r. ⌜ saidAreas r ≡ responseAreas (bookOf rules) (cc .0) (now (s .entry)) ⌝ }
 {
+    let revision = rules.revision;
     match cast_code(rules, s) {
         ResponseCode::Refused(e) => Divided::Refused(e),
-        ResponseCode::Is(code) => match find(cc) {
+        ResponseCode::Is(code) => match find(revision, cc) {
             Found::Refused(_) => Divided::Refused(cc.refused(Area::Header, 0)),
             Found::Is(row) => {
                 if code.0 == 0 {

@@ -1,6 +1,7 @@
 // By which rules a frame is judged.
 ghost use mathlib.Core.Path.{_≡_};
 ghost use Rattle.frame.specs.Rules.{bookOf};
+use table::revision::Revision;
 
 // The Rust's reading, or the standard one, which knows the answer to a bad tag and how long a nonce or an HMAC can be.
 pub enum Reading {
@@ -8,9 +9,10 @@ pub enum Reading {
     Standard,
 }
 
-// Every call that judges a frame takes one.
+// Every call that judges a frame takes one: the reading, and the table of commands.
 pub struct Rules {
     pub reading: Reading,
+    pub revision: Revision,
 }
 
 // Whether the answer to a bad tag is a response.

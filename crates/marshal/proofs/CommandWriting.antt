@@ -9,16 +9,13 @@ use native.Mathlib.Omega.{arith}
 use lib.Dec.{eqb}
 use lib.ListN.{length, length-take, take}
 use Rattle.base.specs.Bytes.{AreBytes}
-use Rattle.base.specs.Members.{isIn}
 use Rattle.base.specs.Said.{noArea, gives, refuses}
 use Rattle.base.proofs.Checks.{then-gives, gives-injective}
-use Rattle.table.specs.Table.{rowFor}
-use Rattle.table.specs.Tags.{tags}
-use Rattle.table.specs.declared.row.Row.{Row}
+use Rattle.table.specs.Table.{IsTable}
 use Rattle.frame.specs.declared.command.Command.{Command}
 use Rattle.frame.specs.Answer.{commandByValue}
 use Rattle.frame.specs.Command.{Division, castCommand, readCommand}
-use Rattle.frame.specs.Header.{sessions, isOfTwo}
+use Rattle.frame.specs.Header.{sessions}
 use Rattle.frame.specs.Layout.{CommandParts, layoutCommand}
 use Rattle.frame.specs.Parts.{commandParts}
 use Rattle.frame.specs.Rules.{Rulebook}
@@ -59,15 +56,14 @@ module _ (book : Rulebook) where
         p .layout-is,
       )
 
-  module _ (holds : (c : ℕ) (r : Row) → rowFor (book .rows) c ≡ gives r → isIn c (book .known) ≡ true)
-      (two-tags : (g : ℕ) → isOfTwo g ≡ true → isIn g tags ≡ true) where
+  module _ (table : IsTable (book .rows) (book .known)) where
     -- ---- what is written passes, and its parts are those handed over
 
     pub command-reads : (tag code : ℕ) (h : Handed) (room : ℕ) {t : List ℕ} → writeCommand book tag code h room ≡ gives t → OfTypes h → code < 4294967296
         → (c : Command) × (commandByValue t (readCommand book t) ≡ gives c) × (commandParts t c ≡ commandFrame tag code h)
     command-reads tag code h room written types fits =
         let formed = command-formed tag code h room written types fits in
-        rw (formed .1) (command-divides book holds two-tags .parts-read (commandFrame tag code h) (formed .0))
+        rw (formed .1) (command-divides book table .parts-read (commandFrame tag code h) (formed .0))
 
     -- ---- what was read is written again
 
@@ -90,7 +86,7 @@ module _ (book : Rulebook) where
       unfolding commandParts
       command-again are room enough some =
           let formed : CommandParts book (commandParts s c) × (layoutCommand (commandParts s c) ≡ s) =
-          command-divides book holds two-tags .again s are c read in
+          command-divides book table .again s are c read in
           let parts = formed .0 in
           let h = commandHanded s c in
           let small : length s < 4294967296 = rw (formed .1) at (parts .size-fits) in

@@ -2,7 +2,7 @@
 -- over; the parts read from a passing frame, written into enough room, give the same bytes, but under the sessions tag with no entry;
 -- a writer refuses with 7 exactly where document 01 says; and a refused call leaves the room as it was. First the laws of the
 -- definitions, then of what callers are answered; these also say which frames are taken.
--- The laws themselves hold by any rules, and for commands by any whose known codes have the rows' codes (CommandWriting,
+-- The laws themselves hold by any rules, and for commands by any table (CommandWriting,
 -- ResponseWriting, Taking, TooLarge).
 -- Assumes nothing.
 use mathlib.Core.Path.{_≡_, refl, _∙_, ap}
@@ -19,12 +19,9 @@ use Rattle.base.specs.declared.answer.Total.the-variants as total
 use Rattle.base.specs.declared.error.WriteError.the-variants.{IntegerTooLarge}
 use Rattle.base.specs.Answer.{saidTotal}
 use Rattle.base.specs.Bytes.{AreBytes}
-use Rattle.base.specs.Members.{isIn}
 use Rattle.base.specs.Said.{Why, noArea, Said, gives, refuses}
-use Rattle.table.specs.Dispatch.{dispatch, commandCodes}
-use Rattle.table.specs.Table.{rowFor}
-use Rattle.table.specs.declared.row.Row.{Row}
-use Rattle.table.proofs.Table.{row-known}
+use Rattle.table.specs.Table.{IsTable}
+use Rattle.table.proofs.Table.{is-table}
 use Rattle.frame.specs.declared.command.Command.{Command}
 use Rattle.frame.specs.declared.response.Response.{Response}
 use Rattle.frame.specs.Answer.{commandByValue, responseByValue}
@@ -35,7 +32,6 @@ use Rattle.frame.specs.Parts.{commandParts, responseParts}
 use Rattle.frame.specs.Response.{readResponse}
 use Rattle.frame.specs.Rules.{Rulebook, admitsBadTag, bookOf}
 use Rattle.frame.specs.declared.rules.Rules.{Rules}
-use Rattle.frame.proofs.FrameLaws.{two-tags}
 use Rattle.frame.proofs.Laws.{Promised}
 use Rattle.marshal.specs.Handed.{Handed, handed, commandFrame}
 use Rattle.marshal.specs.Mode.{asked, asksBadTag, bookFor, readingOf}
@@ -57,9 +53,6 @@ use Rattle.marshal.proofs.command.write.Kinds as command-write-kinds
 use Rattle.marshal.proofs.command.write.Reads as command-write-reads
 use Rattle.marshal.proofs.response.write.Kinds as response-write-kinds
 use Rattle.marshal.proofs.response.write.Reads as response-write-reads
-
-has-code : (code : ℕ) (r : Row) → rowFor dispatch code ≡ gives r → isIn code commandCodes ≡ true
-has-code code r found = row-known code found
 
 -- what is asked for in a mode is there in the rules that go with it
 mode-may : (m : Mode) → asksBadTag m ≡ true → admitsBadTag (readingOf m) ≡ true
@@ -87,12 +80,12 @@ module _ (room : List ℕ) where
         (c : Command) × (commandByValue t (readCommand command-book t) ≡ gives c) × (commandParts t c ≡ commandFrame tag code h)
     command-reads tag code h answer types fits =
         let start = room-start room (writeCommand command-book tag code h (length room)) answer in
-        rw (start .2) (command.command-reads command-book has-code two-tags tag code h (length room) (start .1) types fits)
+        rw (start .2) (command.command-reads command-book (is-table (rules .revision)) tag code h (length room) (start .1) types fits)
 
     module _ (s : List ℕ) (are : AreBytes s) (c : Command) (read : commandByValue s (readCommand command-book s) ≡ gives c) where
       pub command-again : length s ≤ length room → (eqb (c .tag .0) sessions ≡ true → c .entries .count ≡ 0 → ⊥)
           → Wrote (writeCommand command-book (c .tag .0) (c .cc .0) (commandHanded s c) (length room)) s
-      command-again enough some = room-is room (command.command-again command-book has-code two-tags s c read are (length room) enough some)
+      command-again enough some = room-is room (command.command-again command-book (is-table (rules .revision)) s c read are (length room) enough some)
 
       pub command-empty : c .tag .0 ≡ sessions → c .entries .count ≡ 0
           → writeCommand command-book (c .tag .0) (c .cc .0) (commandHanded s c) (length room) ≡ refuses (noArea (3 ∷ 0 ∷ 0x8002 ∷ []))
@@ -156,18 +149,17 @@ module _ (book : Rulebook) (tag code : ℕ) (h : Handed) (room : List ℕ) (x : 
   abbrev commandSaid : Said (List ℕ)
   commandSaid = writeCommand book tag code h (length room)
 
-  command-writes : ((c : ℕ) (r : Row) → rowFor (book .rows) c ≡ gives r → isIn c (book .known) ≡ true)
-      → saidTotal x ≡ counted commandSaid → later ≡ roomAfter room commandSaid → CommandWrites
-  command-writes has answer bytes =
+  command-writes : IsTable (book .rows) (book .known) → saidTotal x ≡ counted commandSaid → later ≡ roomAfter room commandSaid → CommandWrites
+  command-writes table answer bytes =
       let back : (s : List ℕ) (c : Command) → CommandFrom s c
       → commandSaid ≡ writeCommand book (c .tag .0) (c .cc .0) (commandHanded s c) (length room) =
       λ s c from i. writeCommand book (from .0 i) (from .1 i) (from .2 i) (length room) in (
         writes room x later commandSaid answer bytes (book .longest) _ commandParts layoutCommand (CommandFormed book) CommandFrom _ h code _
             (λ t given types fits. command-taken book tag code h (length room) given types fits)
             (taken-command book tag code h (length room))
-            (λ t given types fits. command.command-reads book has two-tags tag code h (length room) given types fits)
+            (λ t given types fits. command.command-reads book table tag code h (length room) given types fits)
             (λ s are c read from enough some. back s c from
-            ∙ command.command-again book has two-tags s c read are (length room) enough
+            ∙ command.command-again book table s c read are (length room) enough
             (λ under none. some (eqb-true (c .tag .0) sessions under, none))),
         (λ s c from bare. is-refused room x later commandSaid answer bytes
             (back s c from ∙ command.command-empty book s c (length room) (bare .0) (bare .1))),
@@ -181,7 +173,7 @@ pub command-write : Promised 4 command-write-kinds.ps command-write-kinds.r comm
     (λ κs a x later.
     let h : Handed = handed (now (a .1 .1 .1 .0)) (a .1 .1 .1 .1 .0) (now (a .1 .1 .1 .1 .1 .0)) (now (a .1 .1 .1 .1 .1 .1 .0)) in
     CommandWrites (bookOf (a .0)) (a .1 .0 .0) (a .1 .1 .0 .0) h (now (a .1 .1 .1 .1 .1 .1 .1 .0)) x (now (later .1 .1 .1 .1 .1 .1 .1 .0)))
-command-write κs a x v met = command-writes (bookOf (a .0)) (a .1 .0 .0) (a .1 .1 .0 .0) _ _ x _ has-code (met .0) (met .1)
+command-write κs a x v met = command-writes (bookOf (a .0)) (a .1 .0 .0) (a .1 .1 .0 .0) _ _ x _ (is-table (a .0 .revision)) (met .0) (met .1)
 
 module _ (book : Rulebook) (asks : Bool) (cc code : ℕ) (h : Handed) (room : List ℕ) (x : Total) (later : List ℕ) where
   -- the tag of the answer to a bad tag is asked for where it was read

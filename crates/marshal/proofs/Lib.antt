@@ -7,6 +7,7 @@ pub mod Laws
 pub mod Lengths
 pub mod Parts
 pub mod ResponseWriting
+pub mod Revisions
 pub mod Rooms
 pub mod Sessions
 pub mod Single

@@ -11,7 +11,8 @@ use Rattle.base.specs.Bytes.{bytes, number}
 use Rattle.base.specs.Said.{inArea, noArea, Said, gives, refuses, then}
 use Rattle.rc.specs.Code.{readIndex, readFmt1, readFmt0, readCode}
 use Rattle.rc.specs.Known.{isKnown, knownCodes}
-use Rattle.table.specs.Dispatch.{dispatch}
+use Rattle.table.specs.declared.revision.Revision.the-variants as revision
+use Rattle.table.specs.Dispatch.{tableOf}
 use Rattle.table.specs.Tags.{tags}
 use Rattle.frame.specs.declared.session.Session.{Session}
 use Rattle.frame.specs.Answer.{commandByValue, responseByValue}
@@ -66,7 +67,7 @@ pub data Call : Type 0 where
 
 -- a response written in a mode, by the rules and the tag that go with it
 abbrev by : Mode → ResponseRules
-by m = record { mode = m }
+by m = record { mode = m; revision = revision.Crate }
 
 abbrev in-mode : Mode → ℕ → ℕ → Handed → ℕ → Said (List ℕ)
 in-mode m = writeResponse (bookFor (by m)) (asked (by m))
@@ -80,7 +81,7 @@ answer (again-command s room) =
 answer (again-response cc s room) =
     then (responseByValue s (readResponse rust cc s)) λ r.
     in-mode mode.Rust cc (r .rc .0) (responseHanded s r) room
-answer (write-command r tag code h room) = writeCommand (bookOf (record { reading = r })) tag code h room
+answer (write-command r tag code h room) = writeCommand (bookOf (record { reading = r; revision = revision.Crate })) tag code h room
 answer (write-response m cc code h room) = in-mode m cc code h room
 -- in the standard mode, with the tag of the answer to a bad tag asked for where it was read
 answer (again-standard cc s room) =
@@ -136,7 +137,7 @@ results [] = []
 results (r ∷ rs) = r .result ∷ results rs
 
 pub starred : answers rows ≡ results rows
-unfolding bytes number dispatch tags tagOf sizeOf codeOf readCc readRc framePrefix frameWhole readCommandTag readResponseTag handleArea sizedArea commandHandles commandAreas judgeCommand castCommand readCommand judgeResponse castResponse errorAreas successAreas responseAreas readResponse readTpm2b readSigned readEntry walk readCode readFmt1 readFmt0 readIndex isKnown knownCodes layoutCommand layoutResponse sessionsThere judged writeCommand writeSuccess writeError writeResponse
+unfolding bytes number tableOf tags tagOf sizeOf codeOf readCc readRc framePrefix frameWhole readCommandTag readResponseTag handleArea sizedArea commandHandles commandAreas judgeCommand castCommand readCommand judgeResponse castResponse errorAreas successAreas responseAreas readResponse readTpm2b readSigned readEntry walk readCode readFmt1 readFmt0 readIndex isKnown knownCodes layoutCommand layoutResponse sessionsThere judged writeCommand writeSuccess writeError writeResponse
 starred = refl
 
 -- ---- the order of checks: in each row all that is judged later and can be refused beside it would be; 7 has laws of its own (TooLarge)
@@ -231,5 +232,5 @@ refusals =
     ∷ []
 
 pub order : answers refusals ≡ results refusals
-unfolding bytes number dispatch tagOf sizeOf codeOf readRc framePrefix frameWhole readResponseTag judgeResponse castResponse errorAreas responseAreas readResponse walk readCode readFmt1 readFmt0 readIndex isKnown knownCodes layoutResponse sessionsThere judged writeCommand writeSuccess writeError writeBadTag writeResponse
+unfolding bytes number tableOf tagOf sizeOf codeOf readRc framePrefix frameWhole readResponseTag judgeResponse castResponse errorAreas responseAreas readResponse walk readCode readFmt1 readFmt0 readIndex isKnown knownCodes layoutResponse sessionsThere judged writeCommand writeSuccess writeError writeBadTag writeResponse
 order = refl

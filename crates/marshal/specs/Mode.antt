@@ -10,14 +10,14 @@ use Rattle.marshal.specs.declared.mode.Mode.{Mode}
 use Rattle.marshal.specs.declared.mode.Mode.the-variants as mode
 use Rattle.marshal.specs.declared.mode.ResponseRules.{ResponseRules}
 
--- the reading by which what is written in a mode is read again
+-- the reading by which what is written in a mode is read again; the table is the same
 abbrev pub readingOf : Mode → Reading
 readingOf mode.Rust = reading.Rust
 readingOf mode.Standard = reading.Standard
 readingOf mode.BadTag = reading.Standard
 
 abbrev pub rulesFor : ResponseRules → Rules
-rulesFor rules = record { reading = readingOf (rules .mode) }
+rulesFor rules = record { reading = readingOf (rules .mode); revision = rules .revision }
 
 abbrev pub bookFor : ResponseRules → Rulebook
 bookFor rules = bookOf (rulesFor rules)

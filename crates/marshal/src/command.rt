@@ -46,7 +46,8 @@ fn judge_command(
         if MAX_SESSIONS < sessions.count {
             return common(too_many(sessions.count));
         }
-        return match find(cc) {
+        let revision = rules.revision;
+        return match find(revision, cc) {
             Found::Refused(e) => common(e),
             Found::Is(row) => {
                 let limit = longest(rules);

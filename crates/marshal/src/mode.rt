@@ -4,6 +4,7 @@ ghost use mathlib.Core.Path.{_≡_};
 ghost use Rattle.marshal.specs.Mode.{asked, readingOf, rulesFor};
 use frame::rules::Reading;
 use frame::rules::Rules;
+use table::revision::Revision;
 
 pub enum Mode {
     Rust,
@@ -11,8 +12,10 @@ pub enum Mode {
     BadTag,
 }
 
+// Of the writer of responses: the mode, and the table of commands.
 pub struct ResponseRules {
     pub mode: Mode,
+    pub revision: Revision,
 }
 
 pub(crate) fn asks_bad_tag(rules: ResponseRules) -> bool
@@ -41,7 +44,9 @@ pub(crate) fn rules_for(rules: ResponseRules) -> Rules
     ensures { λ r. ⌜ r ≡ rulesFor rules ⌝ }
 {
     let mode = rules.mode;
+    let revision = rules.revision;
     Rules {
         reading: reading_of(mode),
+        revision,
     }
 }

@@ -112,7 +112,8 @@ fn judge_response(
     if MAX_SESSIONS < sessions.count {
         return common(too_many(sessions.count));
     }
-    match find(cc) {
+    let revision = rules.revision;
+    match find(revision, cc) {
         Found::Refused(e) => common(e),
         Found::Is(row) => {
             if asks_bad_tag(rules) {

@@ -1,15 +1,15 @@
--- `frame::command::handles_end` meets its contract: the row is looked for first: a code that has one is known.
+-- `frame::command::handles_end` meets its contract: a code that has a row is known, and one that has none is not.
 -- Assumes nothing.
 use mathlib.Core.Path.{ap, sym, _∙_}
 use denote.Ref.{now}
 use Rattle.base.specs.declared.error.Area.the-variants.{Header}
-use Rattle.base.specs.Said.{refuses, within}
+use Rattle.base.specs.Said.{refuses, given, within}
 use Rattle.frame.specs.Header.{readCc}
 use Rattle.frame.specs.Command.{commandHandles}
 use Rattle.table.specs.Table.{rowFor, saidFound}
 use Rattle.frame.specs.Rules.{bookOf}
-use Rattle.table.proofs.Only.{row-refused}
-use Rattle.table.proofs.Table.{row-known}
+use Rattle.table.proofs.Rows.{row-given, row-known}
+use Rattle.table.proofs.Table.{is-table}
 use Rattle.base.proofs.Answers.{learnt}
 use Rattle.base.proofs.Checks.{goes-on, stops}
 use Rattle.frame.proofs.Headers.{short-header, code-bytes, cc-read, cc-refused}
@@ -54,47 +54,32 @@ handle-area-requires c κs = search needs
 enum-told : tie.Need-enum-told
 enum-told c = search needs
 
-cc-known-requires : tie.Need-cc-known-requires
-cc-known-requires c κs = search needs
-
 refused-requires : tie.Need-refused-requires
 refused-requires c κs = search needs
-
-refused-requires-2 : tie.Need-refused-requires-2
-refused-requires-2 c κs = search needs
 
 returns-2 : tie.Need-returns-2
 unfolding commandHandles
 returns-2 c =
     let s = now (c .before .before .before .before .before .before .before .before .before .before .before .before .args .s) in
-    let book = bookOf (c .before .before .before .before .before .before .before .before .before .before .before .before .args .rules) in
+    let rules = c .before .before .before .before .before .before .before .before .before .before .before .before .args .rules in
+    let book = bookOf rules in
     let ten = c .before .before .before .before .before .before .before .before .before .before .if1 .left in
     let is = c .before .before .before .before .before .be32 .ensures ∙ code-bytes s ten in
     let found = learnt saidFound (c .before .before .row .given .1) (c .before .before .before .before .find .ensures) in
     c .handle-area .ensures
     ∙ goes-on (within Header (rowFor (book .rows) _)) _ (ap (within Header) found)
-    ∙ goes-on (readCc book s) _ (cc-read s _ book is ten (row-known _ (sym found)))
+    ∙ goes-on (readCc book s) _ (cc-read s _ book is ten (row-known (is-table (rules .revision)) _ (sym found)))
 
 returns-3 : tie.Need-returns-3
 unfolding commandHandles
 returns-3 c =
-    let s = now (c .before .before .before .before .before .before .before .before .before .before .before .before .before .args .s) in
-    let book = bookOf (c .before .before .before .before .before .before .before .before .before .before .before .before .before .args .rules) in
-    let ten = c .before .before .before .before .before .before .before .before .before .before .before .if1 .left in
-    let is = c .before .before .before .before .before .before .be32 .ensures ∙ code-bytes s ten in
+    let s = now (c .before .before .before .before .before .before .before .before .before .before .before .args .s) in
+    let book = bookOf (c .before .before .before .before .before .before .before .before .before .before .before .args .rules) in
+    let ten = c .before .before .before .before .before .before .before .before .before .if1 .left in
+    let is = c .before .before .before .before .be32 .ensures ∙ code-bytes s ten in
+    let none = learnt saidFound (c .before .enum-told .given .1) (c .before .before .before .find .ensures) in
     ap refuses (c .refused .ensures)
-    ∙ stops (within Header (rowFor (book .rows) _)) _ (row-refused Header (book .rows) _ (learnt saidFound (c .before .before .before .enum-told .given .1) (c .before .before .before .before .before .find .ensures)))
-    ∙ goes-on (readCc book s) _ (cc-read s _ book is ten (sym (c .before .before .cc-known .ensures) ∙ c .before .if2 .taken))
-
-returns-4 : tie.Need-returns-4
-unfolding commandHandles
-returns-4 c =
-    let s = now (c .before .before .before .before .before .before .before .before .before .before .before .before .before .args .s) in
-    let book = bookOf (c .before .before .before .before .before .before .before .before .before .before .before .before .before .args .rules) in
-    let ten = c .before .before .before .before .before .before .before .before .before .before .before .if1 .left in
-    let is = c .before .before .before .before .before .before .be32 .ensures ∙ code-bytes s ten in
-    ap refuses (c .refused2 .ensures)
-    ∙ stops (readCc book s) _ (cc-refused s _ book is ten (sym (c .before .before .cc-known .ensures) ∙ c .before .if2 .left))
+    ∙ stops (readCc book s) _ (cc-refused s _ book is ten (sym (row-given _ (book .rows)) ∙ sym (ap given none)))
 
 pub handles-end-spec : {M : Type 1} → statement M
 handles-end-spec =
@@ -111,9 +96,6 @@ handles-end-spec =
     enum-known-row
     handle-area-requires
     enum-told
-    cc-known-requires
     refused-requires
-    refused-requires-2
     returns-2
-    returns-3
-    returns-4)
+    returns-3)
