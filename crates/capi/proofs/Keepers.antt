@@ -8,10 +8,12 @@ use denote.Ref.{now}
 use denote.Triple.Clauses.{Lasts, atExit}
 use lib.ListN.{replicate}
 use Rattle.base.specs.Said.{Said, gives, refuses, done}
+use Rattle.table.specs.declared.revision.Revision.{Revision}
 use Rattle.keeper.specs.History.{opening, answering, closing, silently, says, leaves}
 use Rattle.keeper.specs.Keeper.{opened, answered, closed}
 use Rattle.keeper.specs.State.{held}
 use Rattle.capi.specs.Out.{returned}
+use Rattle.capi.specs.Rules.{revisionNumbered}
 use Rattle.capi.proofs.nonce.skein_keeper_new.Kinds as new-kinds
 use Rattle.capi.proofs.nonce.skein_keeper_new.Reads as new-reads
 use Rattle.capi.proofs.nonce.skein_keeper_open.Kinds as open-kinds
@@ -37,9 +39,12 @@ open-steps κs a x v met = (met .0 .status ∙ number-said (opened (a .0) (now (
 
 pub answer-steps : (κs : Lfts 4) (a : Dens κs answer-kinds.ps) (x : resT answer-kinds.r κs .Denot) (v : Lasts (endedOf 4 answer-kinds.ps answer-kinds.r) κs a)
     → answer-reads.Post κs a x (atExit (endedOf 4 answer-kinds.ps answer-kinds.r) κs a v)
-    → (x ≡ returned (says (answering (now (a .0)) (now (a .1 .0))) (held (now (a .1 .1 .0)))))
-    × (v .1 .1 .0 ≡ leaves (answering (now (a .0)) (now (a .1 .0))) (now (a .1 .1 .0)))
-answer-steps κs a x v met = (met .0 .status ∙ number-said (answered (now (a .0)) (now (a .1 .0)) (held (now (a .1 .1 .0)))), met .1)
+    → (table : Revision) → revisionNumbered (a .0) ≡ gives table
+    → (x ≡ returned (says (answering table (now (a .1 .0)) (now (a .1 .1 .0))) (held (now (a .1 .1 .1 .0)))))
+    × (v .1 .1 .1 .0 ≡ leaves (answering table (now (a .1 .0)) (now (a .1 .1 .0))) (now (a .1 .1 .1 .0)))
+answer-steps κs a x v met table named =
+    let told = rw named at met in
+    (told .0 .status ∙ number-said (answered table (now (a .1 .0)) (now (a .1 .1 .0)) (held (now (a .1 .1 .1 .0)))), told .1)
 
 pub close-steps : (κs : Lfts 2) (a : Dens κs close-kinds.ps) (x : resT close-kinds.r κs .Denot) (v : Lasts (endedOf 2 close-kinds.ps close-kinds.r) κs a)
     → close-reads.Post κs a x (atExit (endedOf 2 close-kinds.ps close-kinds.r) κs a v)

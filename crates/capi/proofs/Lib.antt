@@ -2,6 +2,7 @@ pub mod Arrays
 pub mod Fields
 pub mod Keepers
 pub mod Laid
+pub mod Naming
 pub mod Never
 pub mod Numbered
 pub mod Reported

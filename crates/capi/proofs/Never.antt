@@ -3,7 +3,7 @@
 -- Assumes nothing.
 use mathlib.Core.Path.{_≡_, refl, sym, _∙_}
 use mathlib.Core.List.{List}
-use Prim.Native.Nat.{ℕ}
+use Prim.Native.Nat.{ℕ, _/_, _%_}
 use native.Mathlib.Omega.{arith}
 use borrow.Fn.Kinds.{PK, RK, Out, Dens, resT, endedOf}
 use contract.Lifetimes.{Lfts}
@@ -12,7 +12,7 @@ use denote.Triple.Clauses.{Lasts, atExit}
 use lib.Dec.{eqb}
 use Rattle.base.specs.Parts.{upTo}
 use Rattle.base.specs.Said.{Said, gives, refuses, Only, Never}
-use Rattle.base.proofs.Only.{by-gives, by-refuses, by-cond, by-done, by-then, by-step, not-by, by-no-other, never-read, never-written}
+use Rattle.base.proofs.Only.{by-gives, by-refuses, by-needs, by-cond, by-done, by-then, by-step, not-by, by-no-other, never-read, never-written}
 use Rattle.buffer.proofs.Only as buffer
 use Rattle.frame.specs.Answer.{whole, commandByValue, responseByValue}
 use Rattle.frame.specs.Command.{Division}
@@ -20,11 +20,12 @@ use Rattle.frame.specs.Rules.{Rulebook, bookOf}
 use Rattle.frame.proofs.Never as frame
 use Rattle.keeper.proofs.Only as keeper
 use Rattle.rc.proofs.Never.{never-code}
-use Rattle.table.specs.Dispatch.{dispatch}
+use Rattle.table.specs.declared.revision.Revision.{Revision}
+use Rattle.table.specs.Dispatch.{tableOf}
 use Rattle.table.proofs.Only.{never-row}
 use Rattle.capi.specs.Code.{kindNumbered}
 use Rattle.capi.specs.Out.{returned, Reports}
-use Rattle.capi.specs.Rules.{rulesNumbered, under}
+use Rattle.capi.specs.Rules.{tableNamed, rulesNumbered, revisionNumbered, under, atTable}
 use Rattle.capi.proofs.field.skein_read_u16.Kinds as skein-read-u16-kinds
 use Rattle.capi.proofs.field.skein_read_u16.Reads as skein-read-u16-reads
 use Rattle.capi.proofs.field.skein_write_u16.Kinds as skein-write-u16-kinds
@@ -162,10 +163,19 @@ not-returned (refuses why) p e = not-by p refl e
 not-seven : {A : Type 0} {of : A → List ℕ} {said : Said A} {old later : List ℕ} {r : ℕ} → Never 7 said → Reports of said old later r → r ≡ 7 → ⊥
 not-seven p told e = not-returned _ p (sym (told .status) ∙ e)
 
--- the rules and the kind that a number names
+-- the rules, the table and the kind that a number names
+never-table : (n place : ℕ) → Never 7 (tableNamed n place)
+never-table n place = by-cond (eqb place 0) by-gives (by-cond (eqb place 1) by-gives (by-cond (eqb place 2) by-gives (by-refuses _ refl)))
+
 by-rules : {A : Type 0} (n : ℕ) {say : Rulebook → Said A} → ((book : Rulebook) → Never 7 (say book)) → Never 7 (under n say)
 unfolding rulesNumbered
-by-rules n p = by-then (by-cond (eqb n 0) by-gives (by-cond (eqb n 1) by-gives (by-refuses _ refl))) (λ rules. p (bookOf rules))
+by-rules n p =
+    by-then (by-then (never-table n (n / 16)) λ table. by-step _ (by-cond (eqb (n % 16) 0) by-gives (by-cond (eqb (n % 16) 1) by-gives (by-refuses _ refl))))
+    (λ rules. p (bookOf rules))
+
+by-table : {A : Type 0} (n : ℕ) {say : Revision → Said A} → ((table : Revision) → Never 7 (say table)) → Never 7 (atTable n say)
+unfolding revisionNumbered
+by-table n p = by-then (by-needs (eqb (n % 16) 0) _ refl (never-table n (n / 16))) p
 
 never-kind : (n : ℕ) → Never 7 (kindNumbered n)
 unfolding kindNumbered
@@ -290,10 +300,10 @@ skein-buffer1024-unmarshal : NotSeven 3 skein-buffer1024-unmarshal-kinds.ps skei
 skein-buffer1024-unmarshal κs a x v met = not-seven (of-buffer (buffer.only-prefix _ _)) (met .0)
 
 skein-table-find : NotSeven 1 skein-table-find-kinds.ps skein-table-find-kinds.r (λ κs x. x) skein-table-find-reads.Post
-skein-table-find κs a x v met = not-seven (never-row dispatch (a .0)) met
+skein-table-find κs a x v met = not-seven (by-table (a .0) (λ table. never-row (tableOf table) (a .1 .0))) met
 
 skein-table-known : NotSeven 1 skein-table-known-kinds.ps skein-table-known-kinds.r (λ κs x. x) skein-table-known-reads.Post
-skein-table-known κs a x v met = not-seven by-gives met
+skein-table-known κs a x v met = not-seven (by-table (a .0) (λ table. by-gives)) met
 
 skein-tag-known : NotSeven 1 skein-tag-known-kinds.ps skein-tag-known-kinds.r (λ κs x. x) skein-tag-known-reads.Post
 skein-tag-known κs a x v met = not-seven by-gives met
@@ -368,7 +378,7 @@ skein-keeper-open : NotSeven 3 skein-keeper-open-kinds.ps skein-keeper-open-kind
 skein-keeper-open κs a x v met = not-seven (by-done (keeper.never-opened _ _ _)) (met .0)
 
 skein-keeper-answer : NotSeven 4 skein-keeper-answer-kinds.ps skein-keeper-answer-kinds.r (λ κs x. x) skein-keeper-answer-reads.Post
-skein-keeper-answer κs a x v met = not-seven (by-done (keeper.never-answered _ _ _)) (met .0)
+skein-keeper-answer κs a x v met = not-seven (by-table (a .0) (λ table. by-done (keeper.never-answered table _ _ _))) (met .0)
 
 skein-keeper-close : NotSeven 2 skein-keeper-close-kinds.ps skein-keeper-close-kinds.r (λ κs x. x) skein-keeper-close-reads.Post
 skein-keeper-close κs a x v met = not-seven (by-done (keeper.never-closed _ _)) (met .0)

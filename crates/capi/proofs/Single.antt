@@ -243,10 +243,10 @@ skein-buffer1024-unmarshal : Single 3 skein-buffer1024-unmarshal-kinds.ps skein-
 skein-buffer1024-unmarshal κs a x y v w p q = (status (p .0) (q .0), λ i. (tt, ((p .1 ∙ sym (q .1)) i, (array (p .0) (q .0) i, tt))))
 
 skein-table-find : Single 1 skein-table-find-kinds.ps skein-table-find-kinds.r skein-table-find-reads.Post
-skein-table-find κs a x y v w p q = (status p q, λ i. (tt, (array p q i, tt)))
+skein-table-find κs a x y v w p q = (status p q, λ i. (tt, (tt, (array p q i, tt))))
 
 skein-table-known : Single 1 skein-table-known-kinds.ps skein-table-known-kinds.r skein-table-known-reads.Post
-skein-table-known κs a x y v w p q = (status p q, λ i. (tt, (array p q i, tt)))
+skein-table-known κs a x y v w p q = (status p q, λ i. (tt, (tt, (array p q i, tt))))
 
 skein-tag-known : Single 1 skein-tag-known-kinds.ps skein-tag-known-kinds.r skein-tag-known-reads.Post
 skein-tag-known κs a x y v w p q = (status p q, λ i. (tt, (array p q i, tt)))
@@ -361,7 +361,7 @@ skein-keeper-open : Single 3 skein-keeper-open-kinds.ps skein-keeper-open-kinds.
 skein-keeper-open κs a x y v w p q = (status (p .0) (q .0), λ i. (tt, (tt, ((p .1 ∙ sym (q .1)) i, (array (p .0) (q .0) i, tt)))))
 
 skein-keeper-answer : Single 4 skein-keeper-answer-kinds.ps skein-keeper-answer-kinds.r skein-keeper-answer-reads.Post
-skein-keeper-answer κs a x y v w p q = (status (p .0) (q .0), λ i. (tt, (tt, ((p .1 ∙ sym (q .1)) i, (array (p .0) (q .0) i, tt)))))
+skein-keeper-answer κs a x y v w p q = (status (p .0) (q .0), λ i. (tt, (tt, (tt, ((p .1 ∙ sym (q .1)) i, (array (p .0) (q .0) i, tt))))))
 
 skein-keeper-close : Single 2 skein-keeper-close-kinds.ps skein-keeper-close-kinds.r skein-keeper-close-reads.Post
 skein-keeper-close κs a x y v w p q = (status (p .0) (q .0), λ i. (tt, ((p .1 ∙ sym (q .1)) i, (array (p .0) (q .0) i, tt))))

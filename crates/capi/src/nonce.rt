@@ -6,8 +6,12 @@ ghost use Rattle.keeper.specs.Keeper.{answered, closed, opened};
 ghost use Rattle.keeper.specs.Refusal.{numbered, saidAsked, saidOutcome};
 ghost use Rattle.keeper.specs.State.{answeredIn, askedIn, closedIn, held, openedIn};
 ghost use Rattle.capi.specs.Out.{Reports, ends, none, one, refusalOver};
+ghost use Rattle.capi.specs.Rules.{atTable};
 use crate::out;
 use crate::out::Numbers;
+use crate::rules::NamedRevision;
+use crate::rules::UNKNOWN;
+use crate::rules::revision_named;
 use base::answer::Count;
 use keeper::refusal::Asked;
 use keeper::refusal::Outcome;
@@ -71,15 +75,22 @@ pub extern "C" fn skein_keeper_open(
 
 #[no_mangle]
 pub extern "C" fn skein_keeper_answer(
+    revision: u32,
     command: &[u8],
     response: &[u8],
     keeper: &mut State,
     out: &mut Numbers,
 ) -> u32
-    ensures { λ r. ⌜ Reports none (done (answered (now (command .entry)) (now (response .entry)) (held (now (keeper .entry))))) (now (out .entry)) (now (out .exit)) r ⌝ }
-    ensures { λ r. ⌜ now (keeper .exit) ≡ after (now (keeper .entry)) (answeredIn (now (command .entry)) (now (response .entry)) (now (keeper .entry))) ⌝ }
+    ensures { λ r. ⌜ Reports none (atTable revision λ table. done (answered table (now (command .entry)) (now (response .entry)) (held (now (keeper .entry))))) (now (out .entry)) (now (out .exit)) r ⌝ }
+    ensures { λ r. ⌜ now (keeper .exit) ≡ after (now (keeper .entry)) (atTable revision λ table. answeredIn table (now (command .entry)) (now (response .entry)) (now (keeper .entry))) ⌝ }
 {
-    outcome(keeper::answer::answer(keeper, command, response), out)
+    match revision_named(revision) {
+        NamedRevision::Unknown(n) => out::unnamed(UNKNOWN, n, out),
+        NamedRevision::Is(table) => outcome(
+            keeper::answer::answer(table, keeper, command, response),
+            out,
+        ),
+    }
 }
 
 #[no_mangle]

@@ -21,6 +21,12 @@ use Rattle.frame.specs.Header.{codeOf}
 use Rattle.frame.specs.Parts.{fieldIn}
 use Rattle.frame.specs.Response.{readResponse}
 use Rattle.frame.specs.Walk as walked
+use Rattle.table.specs.declared.revision.Revision.{Revision}
+use Rattle.table.specs.Dispatch.{tableOf}
+use Rattle.table.specs.Table.{Alike}
+use Rattle.table.proofs.Table.{is-table}
+use Rattle.frame.specs.declared.rules.Reading.the-variants as reading
+use Rattle.frame.proofs.Revisions.{same-command, same-response}
 use Rattle.keeper.specs.Keeper.{Open, session, alreadyOpen, allOpen, isOpen, asked, opened, closed, standard, Exchange, exchange, isNamed, repeated, moves, settling, moving, moved, answered}
 use Rattle.keeper.specs.State.{countOf, held, placeOf, put, shifted, openedIn, closedIn, movedIn, answeredIn, bytesOf}
 use Rattle.keeper.specs.History.{Call, opening, answering, closing, asking, counting, silently, says, leaves, Event, Fits, Ran, fresh, next, movesOf, lastOf, changed, told, recount, openTold, names}
@@ -64,9 +70,9 @@ close-steps κs a x v met = (ap silently (met .0) ∙ silent-done (closed (a .1 
 
 pub answer-steps : (κs : Lfts 3) (a : Dens κs answer-kinds.ps) (x : resT answer-kinds.r κs .Denot) (v : Lasts (endedOf 3 answer-kinds.ps answer-kinds.r) κs a)
     → answer-reads.Post κs a x (atExit (endedOf 3 answer-kinds.ps answer-kinds.r) κs a v)
-    → (silently (saidOutcome x) ≡ says (answering (now (a .1 .0)) (now (a .1 .1 .0))) (held (now (a .0))))
-    × (v .0 ≡ leaves (answering (now (a .1 .0)) (now (a .1 .1 .0))) (now (a .0)))
-answer-steps κs a x v met = (ap silently (met .0) ∙ silent-done (answered (now (a .1 .0)) (now (a .1 .1 .0)) (held (now (a .0)))), met .1 .1)
+    → (silently (saidOutcome x) ≡ says (answering (a .0) (now (a .1 .1 .0)) (now (a .1 .1 .1 .0))) (held (now (a .1 .0))))
+    × (v .1 .0 ≡ leaves (answering (a .0) (now (a .1 .1 .0)) (now (a .1 .1 .1 .0))) (now (a .1 .0)))
+answer-steps κs a x v met = (ap silently (met .0) ∙ silent-done (answered (a .0) (now (a .1 .1 .0)) (now (a .1 .1 .1 .0)) (held (now (a .1 .0)))), met .1 .1)
 
 pub ask-says : (κs : Lfts 1) (a : Dens κs ask-kinds.ps) (x : resT ask-kinds.r κs .Denot) (v : Lasts (endedOf 1 ask-kinds.ps ask-kinds.r) κs a)
     → ask-reads.Post κs a x (atExit (endedOf 1 ask-kinds.ps ask-kinds.r) κs a v)
@@ -140,7 +146,7 @@ untouched s later (refuses why) e = refl
 pub refused-leaves : (call : Call) (s : List ℕ) → given (says call (held s)) ≡ false → leaves call s ≡ s
 unfolding openedIn closedIn answeredIn answered
 refused-leaves (opening handle nonce) s e = untouched s (set (put (countOf s) handle nonce s) 0 (countOf s + 1)) (opened handle nonce (held s)) e
-refused-leaves (answering command response) s e = by (moving command response (held s)) e
+refused-leaves (answering table command response) s e = by (moving table command response (held s)) e
   where
     by : (said : Said (List Open)) → given (silently (then said λ ms. gives (moved ms (held s)))) ≡ false → after s (then said λ ms. gives (movedIn ms s)) ≡ s
     by (gives xs) e = absurd (false≢true (sym e))
@@ -150,10 +156,10 @@ refused-leaves (asking handle) s e = refl
 refused-leaves counting s e = refl
 
 -- an error response that passes, which is accepted
-pub error-leaves : (command response s : List ℕ) (e : Exchange) → exchange command response ≡ gives e → e .success ≡ false
-    → (says (answering command response) (held s) ≡ gives []) × (leaves (answering command response) s ≡ s)
+pub error-leaves : (table : Revision) (command response s : List ℕ) (e : Exchange) → exchange table command response ≡ gives e → e .success ≡ false
+    → (says (answering table command response) (held s) ≡ gives []) × (leaves (answering table command response) s ≡ s)
 unfolding answered answeredIn moving moved movedIn
-error-leaves command response s e is error = rw (is, error) (refl, refl)
+error-leaves table command response s e is error = rw (is, error) (refl, refl)
 
 -- what is kept for a handle that the call does not name
 unnamed-last : (handle : ℕ) (ms : List Open) → isOpen handle ms ≡ false → (before : List ℕ) → lastOf handle ms before ≡ before
@@ -168,8 +174,8 @@ unnamed-last handle (m ∷ ms) e before = by (eqb (m .handle) handle) e (unnamed
 
 unnamed-same : (handle : ℕ) (call : Call) (before : Said (List ℕ)) → names handle call ≡ false → changed handle call before ≡ before
 unnamed-same handle (opening other nonce) before e = rw e refl
-unnamed-same handle (answering command response) (gives nonce) e = ap gives (unnamed-last handle (movesOf response (exchange command response)) e nonce)
-unnamed-same handle (answering command response) (refuses why) e = refl
+unnamed-same handle (answering table command response) (gives nonce) e = ap gives (unnamed-last handle (movesOf response (exchange table command response)) e nonce)
+unnamed-same handle (answering table command response) (refuses why) e = refl
 unnamed-same handle (closing other) before e = rw e refl
 unnamed-same handle (asking other) before e = refl
 unnamed-same handle counting before e = refl
@@ -219,28 +225,28 @@ at-position response xs handle was (e ∷ es) (f ∷ fs) once long (suc i) h at 
 
 -- ---- by the frames alone: what the two readings give, the code of the response, and the entries of both
 
-module _ (command response : List ℕ) (c r : Division) (first : readCommand standard command ≡ gives c)
-    (second : readResponse standard (codeOf command) response ≡ gives r) where
-  both-read : exchange command response ≡ gives (record { success = eqb (codeOf response) 0; named = c .entries; given = r .entries })
+module _ (table : Revision) (command response : List ℕ) (c r : Division) (first : readCommand (standard table) command ≡ gives c)
+    (second : readResponse (standard table) (codeOf command) response ≡ gives r) where
+  both-read : exchange table command response ≡ gives (record { success = eqb (codeOf response) 0; named = c .entries; given = r .entries })
   unfolding exchange
   both-read = rw (first, second) refl
 
   -- a code other than success moves nothing
   pub error-code-leaves : (codeOf response ≡ 0 → ⊥) → (s : List ℕ)
-      → (says (answering command response) (held s) ≡ gives []) × (leaves (answering command response) s ≡ s)
+      → (says (answering table command response) (held s) ≡ gives []) × (leaves (answering table command response) s ≡ s)
   error-code-leaves other s =
-      error-leaves command response s (record { success = eqb (codeOf response) 0; named = c .entries; given = r .entries }) both-read
+      error-leaves table command response s (record { success = eqb (codeOf response) 0; named = c .entries; given = r .entries }) both-read
       (ne-eqb (codeOf response) 0 other)
 
   module _ (success : codeOf response ≡ 0) where
-    these : movesOf response (exchange command response) ≡ moves response (c .entries) (r .entries)
+    these : movesOf response (exchange table command response) ≡ moves response (c .entries) (r .entries)
     these = ap (movesOf response) both-read ∙ ap (λ (b : Bool). cond b (moves response (c .entries) (r .entries)) []) (eq-eqb (codeOf response) 0 success)
 
-    settled : (xs : List Open) → says (answering command response) xs ≡ gives [] → (repeated (c .entries) xs ≡ false) × (length (c .entries) ≡ length (r .entries))
+    settled : (xs : List Open) → says (answering table command response) xs ≡ gives [] → (repeated (c .entries) xs ≡ false) × (length (c .entries) ≡ length (r .entries))
     unfolding answered moving settling
     settled xs e =
-        let done = then-gives (answered command response xs) _ e in
-        let made = then-gives (moving command response xs) _ (done .1) in
+        let done = then-gives (answered table command response xs) _ e in
+        let made = then-gives (moving table command response xs) _ (done .1) in
         let judged : settling response (c .entries) (r .entries) xs ≡ gives (made .0) =
         ap (λ (b : Bool). cond b (settling response (c .entries) (r .entries) xs) (gives [])) (sym (eq-eqb (codeOf response) 0 success))
         ∙ ap (λ (x : Said Exchange). then x λ e. cond (e .success) (settling response (e .named) (e .given) xs) (gives [])) (sym both-read) ∙ made .1 in
@@ -249,19 +255,19 @@ module _ (command response : List ℕ) (c r : Division) (first : readCommand sta
         (not-true (repeated (c .entries) xs) (once .0), eqb-true (length (c .entries)) (length (r .entries)) (alike .0))
 
     -- success that is accepted moves each open session of the command to the nonce at the same position of the response
-    pub success-moves : (past : List Event) (s : List ℕ) → Ran past s → says (answering command response) (held s) ≡ gives []
+    pub success-moves : (past : List Event) (s : List ℕ) → Ran past s → says (answering table command response) (held s) ≡ gives []
         → (handle : ℕ) → isOpen handle (held s) ≡ true → (i : ℕ) → i < length (c .entries) → getD (c .entries) i walked.none .handle ≡ handle
-        → asked handle (held (leaves (answering command response) s)) ≡ gives (fieldIn response (getD (r .entries) i walked.none .nonce))
+        → asked handle (held (leaves (answering table command response) s)) ≡ gives (fieldIn response (getD (r .entries) i walked.none .nonce))
     unfolding told
     success-moves past s ran said handle was i inside at =
         let judged = settled (held s) said in
-        kept-told _ (leaves (answering command response) s) (next ran (answering command response) tt) handle
-        ∙ ap (λ (x : Said (List ℕ)). cond (given x) (changed handle (answering command response) (told handle past)) (told handle past)) said
-        ∙ ap (changed handle (answering command response)) (sym (kept-told past s ran handle))
+        kept-told _ (leaves (answering table command response) s) (next ran (answering table command response) tt) handle
+        ∙ ap (λ (x : Said (List ℕ)). cond (given x) (changed handle (answering table command response) (told handle past)) (told handle past)) said
+        ∙ ap (changed handle (answering table command response)) (sym (kept-told past s ran handle))
         ∙ by (asked handle (held s)) (sym (open-answers handle (held s)) ∙ was) judged
       where
         by : (before : Said (List ℕ)) → given before ≡ true → (repeated (c .entries) (held s) ≡ false) × (length (c .entries) ≡ length (r .entries))
-            → changed handle (answering command response) before ≡ gives (fieldIn response (getD (r .entries) i walked.none .nonce))
+            → changed handle (answering table command response) before ≡ gives (fieldIn response (getD (r .entries) i walked.none .nonce))
         by (gives old) e judged =
             ap (λ (ms : List Open). gives (lastOf handle ms old)) these
             ∙ ap gives (at-position response (held s) handle was (c .entries) (r .entries) (judged .0) (judged .1) i inside at old)
@@ -279,3 +285,19 @@ module _ (handle : ℕ) (nonce : List ℕ) (xs : List Open) where
 
   pub opens-exactly : (opened handle nonce xs ≡ gives (session handle nonce ∷ xs)) ↔ ((isOpen handle xs ≡ false) × (length nonce ≤ 64) × (length xs < 64))
   opens-exactly = (opens-only, opens-where)
+
+-- ---- two tables in which the command's code stands with equal counts (document 02, W10): an answer is judged the same, and moves the same
+
+module _ (table other : Revision) (command response : List ℕ) (same : Alike (tableOf table) (tableOf other) (codeOf command)) where
+  same-exchange : exchange table command response ≡ exchange other command response
+  unfolding exchange
+  same-exchange =
+      rw (
+        same-command (is-table table) (is-table other) reading.Standard (codeOf command) same command refl,
+        same-response (is-table table) (is-table other) reading.Standard (codeOf command) same response,
+      ) refl
+
+  pub same-answer : (s : List ℕ) → (says (answering table command response) (held s) ≡ says (answering other command response) (held s))
+      × (leaves (answering table command response) s ≡ leaves (answering other command response) s)
+  unfolding answered answeredIn moving
+  same-answer s = (rw same-exchange refl, rw same-exchange refl)

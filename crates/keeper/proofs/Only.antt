@@ -15,6 +15,7 @@ use Rattle.frame.specs.Header.{codeOf}
 use Rattle.frame.specs.Where.{OfCommand, OfResponse}
 use Rattle.frame.proofs.Never.{of-table, in-commands, in-responses}
 use Rattle.frame.proofs.Where.{only-command, only-response}
+use Rattle.table.specs.declared.revision.Revision.{Revision}
 use Rattle.keeper.specs.Keeper.{Open, isOpen, opened, closed, standard, exchange, repeated, settling, moving, answered}
 use Rattle.keeper.specs.State.{placeOf, nonceRange, askedIn}
 
@@ -41,8 +42,8 @@ only-asked handle s = by (placeOf s handle)
 
 -- ---- an answer: the command's refusal, the response's, or one of two
 
-abbrev pub OfAnswer : List ℕ → List ℕ → Why → Type 0
-OfAnswer command response why = OfCommand standard command why ⊎ (OfResponse standard (codeOf command) response why ⊎ NoFrame (13 ∷ 14 ∷ []) why)
+abbrev pub OfAnswer : Revision → List ℕ → List ℕ → Why → Type 0
+OfAnswer table command response why = OfCommand (standard table) command why ⊎ (OfResponse (standard table) (codeOf command) response why ⊎ NoFrame (13 ∷ 14 ∷ []) why)
 
 only-settled : (response : List ℕ) (named given : List Session) (xs : List Open) → Only (NoFrame (13 ∷ 14 ∷ [])) (settling response named given xs)
 unfolding settling
@@ -50,13 +51,13 @@ only-settled response named given xs =
     by-needs (not (repeated named xs)) _ (no-frame refl)
     (by-needs (eqb (length named) (length given)) _ (no-frame refl) by-gives)
 
-pub only-answered : (command response : List ℕ) (xs : List Open) → Only (OfAnswer command response) (answered command response xs)
+pub only-answered : (table : Revision) (command response : List ℕ) (xs : List Open) → Only (OfAnswer table command response) (answered table command response xs)
 unfolding answered moving exchange
-only-answered command response xs =
+only-answered table command response xs =
     by-step _
     (by-then
-    (by-then (by-wider (λ why. inl) (only-command standard command)) λ c.
-    by-step _ (by-wider (λ why p. inr (inl p)) (only-response standard response (codeOf command))))
+    (by-then (by-wider (λ why. inl) (only-command (standard table) command)) λ c.
+    by-step _ (by-wider (λ why p. inr (inl p)) (only-response (standard table) response (codeOf command))))
     λ e.
     by-cond (e .success) (by-wider (λ why p. inr (inr p)) (only-settled response (e .named) (e .given) xs)) by-gives)
 
@@ -71,6 +72,6 @@ never-closed handle xs = by-no-other 7 refl (only-closed handle xs)
 pub never-asked : (handle : ℕ) (s : List ℕ) → Never 7 (askedIn handle s)
 never-asked handle s = by-no-other 7 refl (only-asked handle s)
 
-pub never-answered : (command response : List ℕ) (xs : List Open) → Never 7 (answered command response xs)
-never-answered command response xs =
-    by-wider (λ why. ⊎-elim (of-table in-commands why) (⊎-elim (of-table in-responses why) (frameless 7 refl why))) (only-answered command response xs)
+pub never-answered : (table : Revision) (command response : List ℕ) (xs : List Open) → Never 7 (answered table command response xs)
+never-answered table command response xs =
+    by-wider (λ why. ⊎-elim (of-table in-commands why) (⊎-elim (of-table in-responses why) (frameless 7 refl why))) (only-answered table command response xs)

@@ -10,6 +10,7 @@ use lib.Dec.{eqb, leb, ltb}
 use lib.ListN.{length, set, replicate, length-replicate}
 use Rattle.base.specs.Said.{Said, gives, refuses, then, given, after}
 use Rattle.base.proofs.Checks.{needs-gives, gives-injective}
+use Rattle.table.specs.declared.revision.Revision.{Revision}
 use Rattle.keeper.specs.Keeper.{Open, session, notOpen, isOpen, asked, opened, closed, exchange, moving, moved, answered}
 use Rattle.keeper.specs.State.{countOf, handleAt, below, held, placeOf, put, shifted, openedIn, closedIn, movedIn, answeredIn}
 use Rattle.keeper.specs.History.{Call, opening, answering, closing, asking, counting, silently, says, leaves, Event, Fits, Ran, fresh, next, movesOf, lastOf, changed, told, recount}
@@ -112,17 +113,17 @@ closes s sound handle = by (closed handle (held s)) refl
 
 -- ---- an answer
 
-answers : (s : List ℕ) → Sound s → (command response : List ℕ) → Steps s (answering command response)
+answers : (s : List ℕ) → Sound s → (table : Revision) (command response : List ℕ) → Steps s (answering table command response)
 unfolding answeredIn answered
-answers s sound command response = by (moving command response (held s)) refl
+answers s sound table command response = by (moving table command response (held s)) refl
   where
-    by : (said : Said (List Open)) → moving command response (held s) ≡ said
+    by : (said : Said (List Open)) → moving table command response (held s) ≡ said
         → Sound (after s (then said λ ms. gives (movedIn ms s)))
         × ((other : ℕ) → asked other (held (after s (then said λ ms. gives (movedIn ms s))))
         ≡ cond (given (silently (then said λ ms. gives (moved ms (held s)))))
-        (then (asked other (held s)) λ nonce. gives (lastOf other (movesOf response (exchange command response)) nonce)) (asked other (held s)))
+        (then (asked other (held s)) λ nonce. gives (lastOf other (movesOf response (exchange table command response)) nonce)) (asked other (held s)))
     by (gives ms) e =
-        let made = moving-told command response (held s) ms e in
+        let made = moving-told table command response (held s) ms e in
         let is = held-moved ms (made .1) s (sound .all) in (
           record {
             all = is .1;
@@ -143,7 +144,7 @@ either-way false x = refl
 
 steps : (s : List ℕ) → Sound s → (call : Call) → Fits call → Steps s call
 steps s sound (opening handle nonce) fits = opens s sound handle fits nonce
-steps s sound (answering command response) fits = answers s sound command response
+steps s sound (answering table command response) fits = answers s sound table command response
 steps s sound (closing handle) fits = closes s sound handle
 steps s sound (asking handle) fits = (sound, λ other. either-way (given (asked handle (held s))) (asked other (held s)))
 steps s sound counting fits = (sound, λ other. refl)
@@ -182,13 +183,13 @@ module _ (s : List ℕ) (sound : Sound s) where
           let room : countOf s < 64 = rw (← length-held s) (test .2) in
           ap length (held-opened s (sound .all) handle fits nonce (test .1) room)
       by (refuses why) e = refl
-  length-after (answering command response) fits = by (moving command response (held s)) refl
+  length-after (answering table command response) fits = by (moving table command response (held s)) refl
     where
-      by : (said : Said (List Open)) → moving command response (held s) ≡ said
+      by : (said : Said (List Open)) → moving table command response (held s) ≡ said
           → length (held (after s (then said λ ms. gives (movedIn ms s))))
           ≡ cond (given (silently (then said λ ms. gives (moved ms (held s))))) (length (held s)) (length (held s))
       by (gives ms) e =
-          let made = moving-told command response (held s) ms e in
+          let made = moving-told table command response (held s) ms e in
           ap length (held-moved ms (made .1) s (sound .all) .0) ∙ length-moved ms (held s)
       by (refuses why) e = refl
   length-after (closing handle) fits = by (closed handle (held s)) refl

@@ -97,4 +97,4 @@ session-ask : Single 1 ask-kinds.ps ask-kinds.r ask-reads.Post
 session-ask κs a x y v w p q = (saidAsked-injective x y (p .1 ∙ sym (q .1)), refl)
 
 answer-answer : Single 3 answer-kinds.ps answer-kinds.r answer-reads.Post
-answer-answer κs a x y v w p q = (saidOutcome-injective x y (p .0 ∙ sym (q .0)), λ i. ((p .1 .1 ∙ sym (q .1 .1)) i, (tt, (tt, tt))))
+answer-answer κs a x y v w p q = (saidOutcome-injective x y (p .0 ∙ sym (q .0)), λ i. (tt, ((p .1 .1 ∙ sym (q .1 .1)) i, (tt, (tt, tt)))))

@@ -6,12 +6,13 @@ use mathlib.Core.List.{List, [], _∷_}
 use lib.Dec.{eqb}
 use lib.ListN.{length, replicate}
 use Rattle.base.specs.Said.{Said, gives, refuses, then, given, after}
+use Rattle.table.specs.declared.revision.Revision.{Revision}
 use Rattle.keeper.specs.Keeper.{Open, notOpen, isOpen, asked, opened, closed, Exchange, exchange, moves, answered}
 use Rattle.keeper.specs.State.{held, openedIn, closedIn, answeredIn}
 
 pub data Call : Type 0 where
   opening : ℕ → List ℕ → Call
-  answering : List ℕ → List ℕ → Call
+  answering : Revision → List ℕ → List ℕ → Call
   closing : ℕ → Call
   asking : ℕ → Call
   counting : Call
@@ -23,14 +24,14 @@ silently said = then said λ a. gives []
 
 abbrev pub says : Call → List Open → Said (List ℕ)
 says (opening handle nonce) xs = silently (opened handle nonce xs)
-says (answering command response) xs = silently (answered command response xs)
+says (answering table command response) xs = silently (answered table command response xs)
 says (closing handle) xs = silently (closed handle xs)
 says (asking handle) xs = asked handle xs
 says counting xs = gives (length xs ∷ [])
 
 abbrev pub leaves : Call → List ℕ → List ℕ
 leaves (opening handle nonce) s = after s (openedIn handle nonce s)
-leaves (answering command response) s = after s (answeredIn command response s)
+leaves (answering table command response) s = after s (answeredIn table command response s)
 leaves (closing handle) s = after s (closedIn handle s)
 leaves (asking handle) s = s
 leaves counting s = s
@@ -47,7 +48,7 @@ event call said = record { call = call; said = said }
 -- a handle that is opened has 32 bits
 abbrev pub Fits : Call → Type 0
 Fits (opening handle nonce) = handle < 4294967296
-Fits (answering command response) = Unit {0}
+Fits (answering table command response) = Unit {0}
 Fits (closing handle) = Unit {0}
 Fits (asking handle) = Unit {0}
 Fits counting = Unit {0}
@@ -72,8 +73,8 @@ lastOf handle (m ∷ ms) before = lastOf handle ms (cond (eqb (m .handle) handle
 -- after a call that was accepted
 abbrev pub changed : ℕ → Call → Said (List ℕ) → Said (List ℕ)
 changed handle (opening other nonce) before = cond (eqb other handle) (gives nonce) before
-changed handle (answering command response) before =
-    then before λ nonce. gives (lastOf handle (movesOf response (exchange command response)) nonce)
+changed handle (answering table command response) before =
+    then before λ nonce. gives (lastOf handle (movesOf response (exchange table command response)) nonce)
 changed handle (closing other) before = cond (eqb other handle) (refuses notOpen) before
 changed handle (asking other) before = before
 changed handle counting before = before
@@ -85,7 +86,7 @@ told handle (e ∷ past) = cond (given (e .said)) (changed handle (e .call) (tol
 -- how many sessions it tells to be open
 abbrev pub recount : Call → ℕ → ℕ
 recount (opening handle nonce) n = suc n
-recount (answering command response) n = n
+recount (answering table command response) n = n
 recount (closing handle) n = n - 1
 recount (asking handle) n = n
 recount counting n = n
@@ -97,7 +98,7 @@ openTold (e ∷ past) = cond (given (e .said)) (recount (e .call) (openTold past
 -- whether a call names a handle: of an answer, whether it is among the sessions that are to move
 abbrev pub names : ℕ → Call → Bool
 names handle (opening other nonce) = eqb other handle
-names handle (answering command response) = isOpen handle (movesOf response (exchange command response))
+names handle (answering table command response) = isOpen handle (movesOf response (exchange table command response))
 names handle (closing other) = eqb other handle
 names handle (asking other) = false
 names handle counting = false

@@ -6,6 +6,7 @@ use mathlib.Core.List.{List, [], _∷_}
 use lib.Dec.{eqb, leb, ltb}
 use lib.ListN.{length}
 use Rattle.base.specs.Said.{Why, noArea, Said, gives, refuses, needs, then}
+use Rattle.table.specs.declared.revision.Revision.{Revision}
 use Rattle.frame.specs.declared.rules.Reading.the-variants as reading
 use Rattle.frame.specs.declared.session.Session.{Session}
 use Rattle.frame.specs.Command.{readCommand}
@@ -73,9 +74,9 @@ closed handle xs = needs (isOpen handle xs) notOpen (gives (without handle xs))
 
 -- ---- an answer, with the command that it answers
 
--- by the standard reading
-abbrev pub standard : Rulebook
-standard = bookOf (record { reading = reading.Standard })
+-- by the standard reading, at the table that is named (W10)
+abbrev pub standard : Revision → Rulebook
+standard table = bookOf (record { reading = reading.Standard; revision = table })
 
 -- what both frames tell, where they pass: whether it is success, and the entries of the command and of the answer
 pub record Exchange : Type 0 where
@@ -83,10 +84,10 @@ pub record Exchange : Type 0 where
   pub named : List Session
   pub given : List Session
 
-unfoldable pub exchange : List ℕ → List ℕ → Said Exchange
-exchange command response =
-    then (readCommand standard command) λ c.
-    then (readResponse standard (codeOf command) response) λ r.
+unfoldable pub exchange : Revision → List ℕ → List ℕ → Said Exchange
+exchange table command response =
+    then (readCommand (standard table) command) λ c.
+    then (readResponse (standard table) (codeOf command) response) λ r.
     gives (record { success = eqb (codeOf response) 0; named = c .entries; given = r .entries })
 
 -- whether a handle stands in some entries; whether an open one stands there twice
@@ -112,9 +113,9 @@ settling response named given xs =
     (gives (moves response named given)))
 
 -- the moves of an answer that is accepted: an error has none
-unfoldable pub moving : List ℕ → List ℕ → List Open → Said (List Open)
-moving command response xs =
-    then (exchange command response) λ e.
+unfoldable pub moving : Revision → List ℕ → List ℕ → List Open → Said (List Open)
+moving table command response xs =
+    then (exchange table command response) λ e.
     cond (e .success) (settling response (e .named) (e .given) xs) (gives [])
 
 -- a session that is not open is passed by
@@ -122,5 +123,5 @@ unfoldable pub moved : List Open → List Open → List Open
 moved [] xs = xs
 moved (m ∷ ms) xs = moved ms (replace (m .handle) m xs)
 
-unfoldable pub answered : List ℕ → List ℕ → List Open → Said (List Open)
-answered command response xs = then (moving command response xs) λ ms. gives (moved ms xs)
+unfoldable pub answered : Revision → List ℕ → List ℕ → List Open → Said (List Open)
+answered table command response xs = then (moving table command response xs) λ ms. gives (moved ms xs)

@@ -12,6 +12,7 @@ use Rattle.base.specs.Bytes.{number}
 use Rattle.base.specs.Field.{laid}
 use Rattle.base.specs.Said.{Said, gives, refuses, then}
 use Rattle.frame.specs.declared.session.Session.{Session}
+use Rattle.table.specs.declared.revision.Revision.{Revision}
 use Rattle.keeper.specs.Keeper.{Open, session, notOpen, opened, closed, settling, moving}
 
 abbrev pub handlePlace : ℕ → ℕ
@@ -102,9 +103,9 @@ settledIn response named given s =
     then (settling response named given (held s)) λ ms.
     gives (movedIn ms s)
 
-unfoldable pub answeredIn : List ℕ → List ℕ → List ℕ → Said (List ℕ)
-answeredIn command response s =
-    then (moving command response (held s)) λ ms.
+unfoldable pub answeredIn : Revision → List ℕ → List ℕ → List ℕ → Said (List ℕ)
+answeredIn table command response s =
+    then (moving table command response (held s)) λ ms.
     gives (movedIn ms s)
 
 -- a place that is found for two entries is one session named twice

@@ -20,6 +20,7 @@ use frame::rules::Reading;
 use frame::rules::Rules;
 use frame::session::Entries;
 use frame::session::Session;
+use table::revision::Revision;
 
 // The place of the session that an entry names, counted from 1; 0 where there is no such entry, or the session is not open.
 fn named(s: &[u8], there: bool, e: Session) -> usize
@@ -83,13 +84,15 @@ fn settle(s: &mut [u8], command: Entries, response: Entries, bytes: &[u8]) -> Ou
     Outcome::Refused(Refusal::CountsDiffer)
 }
 
-pub fn answer(keeper: &mut State, command: &[u8], response: &[u8]) -> Outcome
-    ensures answer { λ r. ⌜ saidOutcome r ≡ done (answered (now (command .entry)) (now (response .entry)) (held (now (keeper .entry)))) ⌝ }
-    ensures sessions { λ r. ⌜ held (now (keeper .exit)) ≡ after (held (now (keeper .entry))) (answered (now (command .entry)) (now (response .entry)) (held (now (keeper .entry)))) ⌝ }
-    ensures bytes { λ r. ⌜ now (keeper .exit) ≡ after (now (keeper .entry)) (answeredIn (now (command .entry)) (now (response .entry)) (now (keeper .entry))) ⌝ }
+// Both frames pass in the standard reading, at the table that is named.
+pub fn answer(revision: Revision, keeper: &mut State, command: &[u8], response: &[u8]) -> Outcome
+    ensures answer { λ r. ⌜ saidOutcome r ≡ done (answered revision (now (command .entry)) (now (response .entry)) (held (now (keeper .entry)))) ⌝ }
+    ensures sessions { λ r. ⌜ held (now (keeper .exit)) ≡ after (held (now (keeper .entry))) (answered revision (now (command .entry)) (now (response .entry)) (held (now (keeper .entry)))) ⌝ }
+    ensures bytes { λ r. ⌜ now (keeper .exit) ≡ after (now (keeper .entry)) (answeredIn revision (now (command .entry)) (now (response .entry)) (now (keeper .entry))) ⌝ }
 {
     let by = Rules {
         reading: Reading::Standard,
+        revision,
     };
     match frame::command::sessions(by, command) {
         CommandSessions::Refused(e) => Outcome::Refused(Refusal::Frame(e)),

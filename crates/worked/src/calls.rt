@@ -59,7 +59,7 @@ fn answered(
     let mut out = [0u64; 8];
     if records::answered(rules, name, bytes, first, second)
         || views::answered(rules::by(rules), name, bytes, first)
-        || nonces::answered(name, bytes, first, keeper)
+        || nonces::answered(rules, name, bytes, first, keeper)
     {
         return true;
     }

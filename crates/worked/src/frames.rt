@@ -1,5 +1,6 @@
 // The calls on whole frames, and on the tags, the codes and the table that frames are checked by.
 use crate::rules::by;
+use crate::rules::table;
 use crate::told::Told;
 use crate::told::filled;
 use crate::told::read;
@@ -69,10 +70,13 @@ fn read_with_code(rules: u32, name: &[u8], bytes: &[u8], code: u32, out: &mut [u
         return read(4, capi::code::skein_rc_read(code, out));
     }
     if check::same(name, b"table_find") {
-        return read(2, capi::dispatch::skein_table_find(code, out));
+        return read(2, capi::dispatch::skein_table_find(table(rules), code, out));
     }
     if check::same(name, b"table_known") {
-        return read(1, capi::dispatch::skein_table_known(code, out));
+        return read(
+            1,
+            capi::dispatch::skein_table_known(table(rules), code, out),
+        );
     }
     if check::same(name, b"response_validate") {
         return read(

@@ -1,4 +1,5 @@
 // The calls on the nonce keeper, of which there is one for all lines: a line finds it as the lines before have left it.
+use crate::rules::table;
 use crate::show;
 use crate::told::Told;
 use crate::told::read;
@@ -8,9 +9,15 @@ use base::part::part;
 use keeper::state::State;
 
 // Whether there is such a call, which is then made.
-pub(crate) fn answered(name: &[u8], bytes: &[u8], number: usize, keeper: &mut State) -> bool {
+pub(crate) fn answered(
+    rules: u32,
+    name: &[u8],
+    bytes: &[u8],
+    number: usize,
+    keeper: &mut State,
+) -> bool {
     let mut out = [0u64; 8];
-    let told = call(name, bytes, number, keeper, &mut out);
+    let told = call(rules, name, bytes, number, keeper, &mut out);
     if told.known {
         show::answer(told, out, bytes);
         return true;
@@ -25,7 +32,14 @@ pub(crate) fn answered(name: &[u8], bytes: &[u8], number: usize, keeper: &mut St
     false
 }
 
-fn call(name: &[u8], bytes: &[u8], number: usize, keeper: &mut State, out: &mut [u64; 8]) -> Told {
+fn call(
+    rules: u32,
+    name: &[u8],
+    bytes: &[u8],
+    number: usize,
+    keeper: &mut State,
+    out: &mut [u64; 8],
+) -> Told {
     if check::same(name, b"keeper_new") {
         return read(0, capi::nonce::skein_keeper_new(keeper, out));
     }
@@ -33,7 +47,7 @@ fn call(name: &[u8], bytes: &[u8], number: usize, keeper: &mut State, out: &mut 
         return read(1, capi::nonce::skein_keeper_len(keeper, out));
     }
     if check::same(name, b"keeper_answer") && number <= bytes.len() {
-        return read(0, pair(bytes, number, keeper, out));
+        return read(0, pair(table(rules), bytes, number, keeper, out));
     }
     if number > 4294967295 {
         return unknown();
@@ -54,7 +68,7 @@ fn call(name: &[u8], bytes: &[u8], number: usize, keeper: &mut State, out: &mut 
 }
 
 // A command of so many bytes, and what is behind it as its response.
-fn pair(bytes: &[u8], count: usize, keeper: &mut State, out: &mut [u64; 8]) -> u32 {
+fn pair(revision: u32, bytes: &[u8], count: usize, keeper: &mut State, out: &mut [u64; 8]) -> u32 {
     let len = bytes.len();
     let command = part(bytes, Range::Is { from: 0, to: count });
     let response = part(
@@ -64,7 +78,7 @@ fn pair(bytes: &[u8], count: usize, keeper: &mut State, out: &mut [u64; 8]) -> u
             to: len,
         },
     );
-    capi::nonce::skein_keeper_answer(command, response, keeper, out)
+    capi::nonce::skein_keeper_answer(revision, command, response, keeper, out)
 }
 
 // The nonce's own bytes are shown, not where the keeper has them.

@@ -125,9 +125,14 @@ fn command_again(rules: u32, bytes: &mut [u8], room: usize) {
     show::answer(wrote(1, number), out, bytes);
 }
 
-// The tag of the answer to a bad tag is asked for where it was read.
+// The tag of the answer to a bad tag is asked for where it was read: the number behind that of the standard reading.
 fn mode(rules: u32, tag: TpmSt) -> u32 {
-    if tag.0 == RSP_COMMAND { 2 } else { rules }
+    if tag.0 == RSP_COMMAND {
+        if rules < 48 {
+            return rules + 1;
+        }
+    }
+    rules
 }
 
 fn response_again(rules: u32, code: u32, bytes: &mut [u8], room: usize) {

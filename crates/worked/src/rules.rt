@@ -1,6 +1,8 @@
-// The rules that a line names by a word behind its numbers: none is the Rust reading, `standard` the standard one.
+// The rules that a line names by words behind its numbers: `standard` is the standard reading, else it is the Rust's; behind it `1.38` or
+// `1.59` is the table of that revision, else it is the crate's.
 use frame::rules::Reading;
 use frame::rules::Rules;
+use table::revision::Revision;
 
 // Whether there is nothing else, and the number that C has for them.
 pub(crate) struct Named {
@@ -10,10 +12,19 @@ pub(crate) struct Named {
 
 pub(crate) fn told(s: &[u8]) -> Named {
     if check::same(s, b" standard") {
-        return Named {
-            good: true,
-            number: 1,
-        };
+        return one(1);
+    }
+    if check::same(s, b" 1.38") {
+        return one(16);
+    }
+    if check::same(s, b" standard 1.38") {
+        return one(17);
+    }
+    if check::same(s, b" 1.59") {
+        return one(32);
+    }
+    if check::same(s, b" standard 1.59") {
+        return one(33);
     }
     Named {
         good: s.len() == 0,
@@ -21,13 +32,35 @@ pub(crate) fn told(s: &[u8]) -> Named {
     }
 }
 
+fn one(number: u32) -> Named {
+    Named { good: true, number }
+}
+
+// The number of the table alone.
+pub(crate) fn table(number: u32) -> u32 {
+    number - number % 16
+}
+
 pub(crate) fn by(number: u32) -> Rules {
-    if number == 1 {
-        return Rules {
-            reading: Reading::Standard,
-        };
-    }
     Rules {
-        reading: Reading::Rust,
+        reading: reading(number % 16),
+        revision: revision(number / 16),
     }
+}
+
+fn reading(place: u32) -> Reading {
+    if place == 1 {
+        return Reading::Standard;
+    }
+    Reading::Rust
+}
+
+fn revision(place: u32) -> Revision {
+    if place == 1 {
+        return Revision::Lib138;
+    }
+    if place == 2 {
+        return Revision::Lib159;
+    }
+    Revision::Crate
 }

@@ -37,9 +37,9 @@ settle-requires c κs =
     let first = learnt saidCommandSessions (c .before .before .before .before .before .before .before .before .cc .given .1) (c .before .before .before .before .before .before .before .before .before .before .sessions .ensures) in
     let second = learnt saidResponseSessions (c .before .before .before .before .rc .given .1) (c .before .before .before .before .before .before .sessions2 .ensures) in (
       search needs,
-      command-few (now (a .command)) (now (a .response)) first,
-      response-few (now (a .command)) (now (a .response)) first second,
-      response-kept (now (a .command)) (now (a .response)) first second,
+      command-few (a .revision) (now (a .command)) (now (a .response)) first,
+      response-few (a .revision) (now (a .command)) (now (a .response)) first second,
+      response-kept (a .revision) (now (a .command)) (now (a .response)) first second,
     )
 
 returns : tie.Need-returns
@@ -47,8 +47,8 @@ unfolding answeredIn
 returns c =
     let a = c .before .before .before .before .before .before .args in
     let s = now (a .keeper) in
-    let read = command-refused (now (a .command)) (now (a .response)) (learnt saidCommandSessions (c .before .e .given .1) (c .before .before .before .sessions .ensures)) (held s) in
-    answers-none (now (a .command)) (now (a .response)) s read
+    let read = command-refused (a .revision) (now (a .command)) (now (a .response)) (learnt saidCommandSessions (c .before .e .given .1) (c .before .before .before .sessions .ensures)) (held s) in
+    answers-none (a .revision) (now (a .command)) (now (a .response)) s read
 
 returns-2 : tie.Need-returns-2
 unfolding answeredIn
@@ -56,8 +56,8 @@ returns-2 c =
     let a = c .before .before .before .before .before .before .before .before .before .before .args in
     let s = now (a .keeper) in
     let first = learnt saidCommandSessions (c .before .before .before .before .before .cc .given .1) (c .before .before .before .before .before .before .before .sessions .ensures) in
-    let read = response-refused (now (a .command)) (now (a .response)) first (learnt saidResponseSessions (c .before .e2 .given .1) (c .before .before .before .sessions2 .ensures)) (held s) in
-    answers-none (now (a .command)) (now (a .response)) s read
+    let read = response-refused (a .revision) (now (a .command)) (now (a .response)) first (learnt saidResponseSessions (c .before .e2 .given .1) (c .before .before .before .sessions2 .ensures)) (held s) in
+    answers-none (a .revision) (now (a .command)) (now (a .response)) s read
 
 returns-3 : tie.Need-returns-3
 unfolding answeredIn settledIn
@@ -67,9 +67,9 @@ returns-3 c =
     let all : length s ≡ 4424 = search needs in
     let first = learnt saidCommandSessions (c .before .before .before .before .before .before .before .before .before .cc .given .1) (c .before .before .before .before .before .before .before .before .before .before .before .sessions .ensures) in
     let second = learnt saidResponseSessions (c .before .before .before .before .before .rc .given .1) (c .before .before .before .before .before .before .before .sessions2 .ensures) in
-    answers-as (now (a .command)) (now (a .response)) s all
+    answers-as (a .revision) (now (a .command)) (now (a .response)) s all
     (settling (now (a .response)) (entriesOf (c .before .before .before .before .before .before .before .before .before .cc .given .0 .1 .0)) (entriesOf (c .before .before .before .before .before .rc .given .0 .1 .0)) (held s))
-    (answered-success (now (a .command)) (now (a .response)) first second (c .before .before .if1 .taken) (held s))
+    (answered-success (a .revision) (now (a .command)) (now (a .response)) first second (c .before .before .if1 .taken) (held s))
     (c .settle .ensures .0) (c .settle .ensures .1)
 
 returns-4 : tie.Need-returns-4
@@ -79,7 +79,7 @@ returns-4 c =
     let s = now (a .keeper) in
     let first = learnt saidCommandSessions (c .before .before .before .before .before .before .before .cc .given .1) (c .before .before .before .before .before .before .before .before .before .sessions .ensures) in
     let second = learnt saidResponseSessions (c .before .before .before .rc .given .1) (c .before .before .before .before .before .sessions2 .ensures) in
-    answers-idle (now (a .command)) (now (a .response)) s (answered-error (now (a .command)) (now (a .response)) first second (c .if1 .left) (held s))
+    answers-idle (a .revision) (now (a .command)) (now (a .response)) s (answered-error (a .revision) (now (a .command)) (now (a .response)) first second (c .if1 .left) (held s))
 
 pub answer-spec : {M : Type 1} → statement M
 answer-spec =
