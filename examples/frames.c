@@ -1,5 +1,6 @@
 /* Reads a command and a response, says why some bytes are refused, and writes again what was read. All of it goes by the
-   standard rules, but for one answer that the Rust's refuse.
+   standard rules and the crate's table of commands, but for one answer that the Rust's rules refuse, and for one to a command
+   of the Library's revision 1.59.
    This is C99, and C++ as well. `examples/run` compiles it as both, links it with the proved library, and holds what it
    prints to frames.txt. */
 #include "skeinloft.h"
@@ -122,7 +123,8 @@ static void read_response(uint32_t rules, uint32_t cc, const uint8_t *s, size_t 
     say_sessions(&it->sessions);
 
     memset(room, 0xEE, sizeof room);
-    if (it->tag == SKEIN_RSP_COMMAND) rules = SKEIN_RULES_STANDARD_BAD_TAG;
+    /* by the same table */
+    if (it->tag == SKEIN_RSP_COMMAND) rules += SKEIN_RULES_STANDARD_BAD_TAG - SKEIN_RULES_STANDARD;
     uint32_t number = skein_response_write(rules, it->rc, cc, s + it->handles.from, it->handles.to - it->handles.from,
                                            it->sessions, s, len, s + it->parameters.from,
                                            it->parameters.to - it->parameters.from, room, sizeof room, out);
@@ -233,8 +235,10 @@ int main(void) {
     read_command(shorter, sizeof shorter);
     read_command(command, sizeof command - 1);
     read_command(NULL, 0);
-    /* the response read as one to a command that is none */
+    /* the response read as one to a command that is none, and to one of revision 1.59 that the crate's table lacks */
     read_response(SKEIN_RULES_STANDARD, 0, response, sizeof response);
+    read_response(SKEIN_RULES_STANDARD, 0x197, response, sizeof response);
+    read_response(SKEIN_RULES_STANDARD | SKEIN_REVISION_159, 0x197, response, sizeof response);
 
     /* cut, with a size field that says so: the command in its handle and in its session, the response in its parameters */
     shorter[5] = 12;

@@ -58,25 +58,31 @@ static void ask(uint32_t handle, const struct skein_keeper *keeper) {
     printf(out[SKEIN_FROM] == out[SKEIN_TO] ? "empty\n" : "\n");
 }
 
-static void answers(struct skein_keeper *keeper) {
+/* Hands over a pair. The TPM is one of the Library's revision 1.59. */
+static void answer(const char *what, const uint8_t *sent, size_t sent_len, const uint8_t *back, size_t back_len,
+                   struct skein_keeper *keeper) {
     uint64_t out[SKEIN_NUMBERS] = {0};
+    say(what, skein_keeper_answer(SKEIN_REVISION_159, sent, sent_len, back, back_len, keeper, out), out);
+}
+
+static void answers(struct skein_keeper *keeper) {
     uint8_t twice[34];
-    say("an error", skein_keeper_answer(command, sizeof command, auth_fail, sizeof auth_fail, keeper, out), out);
+    answer("an error", command, sizeof command, auth_fail, sizeof auth_fail, keeper);
     ask(0x02000000, keeper);
-    say("an answer", skein_keeper_answer(command, sizeof command, success, sizeof success, keeper, out), out);
+    answer("an answer", command, sizeof command, success, sizeof success, keeper);
     ask(0x02000000, keeper);
-    say("half an answer", skein_keeper_answer(command, sizeof command, success, 13, keeper, out), out);
-    say("no command", skein_keeper_answer(success, sizeof success, success, sizeof success, keeper, out), out);
+    answer("half an answer", command, sizeof command, success, 13, keeper);
+    answer("no command", success, sizeof success, success, sizeof success, keeper);
 
     /* the same command with its entry once more */
     memcpy(twice, command, 23);
     memcpy(twice + 23, command + 14, 11);
     twice[5] = sizeof twice;
     twice[13] = 18;
-    say("two entries of a session", skein_keeper_answer(twice, sizeof twice, success, sizeof success, keeper, out), out);
+    answer("two entries of a session", twice, sizeof twice, success, sizeof success, keeper);
     /* of which one is another session's now */
     twice[26] = 7;
-    say("one entry less", skein_keeper_answer(twice, sizeof twice, success, sizeof success, keeper, out), out);
+    answer("one entry less", twice, sizeof twice, success, sizeof success, keeper);
     ask(0x02000000, keeper);
 }
 

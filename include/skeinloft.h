@@ -14,8 +14,10 @@
    number, then its fields; enum skein_area tells which area it has. A call that names no refusal always answers.
 
    THE RULES. Every call that judges a frame takes their number first, see enum skein_rules. Name SKEIN_RULES_STANDARD, or
-   SKEIN_RULES_RUST to answer as the provisioning tools that still run tpm2-protocol do. A number that names no rules of the
-   call is refused 101(0,rules) before anything else is looked at, which is not said again below.
+   SKEIN_RULES_RUST to answer as the provisioning tools that still run tpm2-protocol do; and with it a table of commands, see
+   enum skein_revision: `SKEIN_RULES_STANDARD | SKEIN_REVISION_159` for a TPM of revision 1.59. Without one the table is the
+   crate's. Where a call takes `revision`, that is the number of a table alone. A number that names no rules, or no table, of
+   the call is refused 101(0,number) before anything else is looked at, which is not said again below.
 
    WHAT THE CALLER OWES
    - Every pointer is valid for its length. It may be null only where the length is 0.
@@ -46,7 +48,7 @@ extern "C" {
 #endif
 
 /* Rises where a call or a struct changes its form or its meaning. */
-#define SKEIN_VERSION 4
+#define SKEIN_VERSION 5
 
 /* ---- numbers and places */
 
@@ -59,7 +61,7 @@ enum skein_refusal {
     SKEIN_UNEXPECTED_END = 1,    /* offset, needed, available: bytes end too early */
     SKEIN_TRAILING_DATA = 2,     /* offset, actual: bytes behind the end */
     SKEIN_INVALID_TAG = 3,       /* offset, value */
-    SKEIN_INVALID_CC = 4,        /* offset, value: a command code that is none */
+    SKEIN_INVALID_CC = 4,        /* offset, value: a command code that is not in the table */
     SKEIN_INVALID_RC = 5,        /* offset, value: a response code that is none, or does not go with the tag */
     SKEIN_TOO_MANY_ITEMS = 6,    /* offset, limit, actual */
     SKEIN_INTEGER_TOO_LARGE = 7, /* offset, value: of the four writers of frames alone */
@@ -73,7 +75,7 @@ enum skein_refusal {
     SKEIN_NOT_OPEN = 17,         /* the session is not open */
     /* from 100 on: a number in the call itself names nothing */
     SKEIN_NO_SUCH_KIND = 100,    /* 0, kind */
-    SKEIN_NO_SUCH_RULES = 101    /* 0, rules */
+    SKEIN_NO_SUCH_RULES = 101    /* 0, rules or revision */
 };
 
 /* The area of the frame that a refusal is about, and the numbers that it comes with. It is
@@ -82,8 +84,8 @@ enum skein_refusal {
    - the authorization area for all that is wrong in its entries;
    - else the part that is short. The four bytes of a size are of what they size: of the authorization area in a command, of
      the parameters in a response.
-   It is none in the calls without a frame: on codes, tags and the table, on fields at a place, on TPM2Bs and fixed buffers, and
-   on a keeper but for skein_keeper_answer. */
+   It is none in the calls without a frame: on codes, tags and tables, on fields at a place, on TPM2Bs and fixed buffers, and on
+   a keeper but for skein_keeper_answer. */
 enum skein_area {
     SKEIN_AREA_NONE = 0,          /* of writers of frames, of numbers above 9, and of calls without a frame */
     SKEIN_AREA_HEADER = 1,        /* 1, 2, 3, 4, and of a response 5 */
@@ -92,7 +94,7 @@ enum skein_area {
     SKEIN_AREA_PARAMETERS = 4     /* 1, of a response alone */
 };
 
-/* The rules by which a frame is judged or written. They differ in two things:
+/* The rules by which a frame is judged or written, by any table. They differ in two things:
    - in responses under the tag 0x00C4, which is for the answer to a bad tag: where a TPM does not understand a command's tag it
      answers 00C4 0000000A 0000001E, TPM_ST_RSP_COMMAND and TPM_RC_BAD_TAG (Part 2, TPM_ST);
    - in nonces and HMACs of more than 64 bytes: no digest is longer (Part 2, TPMU_HA). */
@@ -100,6 +102,18 @@ enum skein_rules {
     SKEIN_RULES_RUST = 0,            /* the Rust's, of tpm2-protocol: that answer is refused 3(0,0x00C4), and those pass */
     SKEIN_RULES_STANDARD = 1,        /* the Library's: that answer passes, to every command of the table, and those are refused */
     SKEIN_RULES_STANDARD_BAD_TAG = 2 /* for the writers of responses alone: that answer is asked for */
+};
+
+/* The tables of commands: which codes there are, and how many handles each has. A TPM has the commands of its revision of the
+   Library. The number is added to that of the rules; in C++20 one of the two is cast to uint32_t, since they are of two enums.
+   A code that is not in the table is refused 4(6,cc) in a command, and 4(0,cc) where it is written, put in, or answered.
+   Revision 1.38 has no code behind 0x193 but 0x20000000, and all of its codes are in the other two as well. Behind 0x193
+   revision 1.59 has 0x194 to 0x198, and the crate 0x194 to 0x1A1 without 0x197. A code has the same handles in each table that
+   it is in, so those read its frames alike. */
+enum skein_revision {
+    SKEIN_REVISION_CRATE = 0x00, /* tpm2-protocol's, 126 commands */
+    SKEIN_REVISION_138 = 0x10,   /* of the Library's revision 1.38, 113 commands */
+    SKEIN_REVISION_159 = 0x20    /* of the Library's revision 1.59, 118 commands */
 };
 
 /* The places of the lent array. */
@@ -331,7 +345,8 @@ uint32_t skein_response_write_array(uint32_t rules, uint32_t rc, uint32_t cc, co
 /* ---- the nonce keeper
 
    The TPM sends a fresh nonce in each answer, and the next command of the session is signed over it. The keeper remembers, for
-   up to 64 open sessions, the session's handle and the last nonce from the TPM. It reads frames by SKEIN_RULES_STANDARD.
+   up to 64 open sessions, the session's handle and the last nonce from the TPM. It reads frames by SKEIN_RULES_STANDARD and
+   the table that is named with them.
    A refused call leaves the keeper as it was, byte for byte. Every struct is taken, also one of random bytes: then what it
    stands for is not sensible, and no call reads or writes outside it. A keeper is empty once it was given to
    skein_keeper_new, or where all its bytes are zeros. */
@@ -344,13 +359,13 @@ uint32_t skein_keeper_new(struct skein_keeper *keeper, uint64_t out[8]);
 uint32_t skein_keeper_open(uint32_t handle, const uint8_t *nonce, size_t nonce_len, struct skein_keeper *keeper,
                            uint64_t out[8]);
 
-/* Takes an answer of the TPM with the command that it answers. Gives nothing.
+/* Takes an answer of the TPM with the command that it answers, by the table of its revision. Gives nothing.
    Where the answer is success, each open session that the command names gets the nonce at the same position of the answer;
    handles that are not open are passed by. An error moves nothing, and is no refusal.
    Refuses as skein_command_parts, then as skein_response_parts for the command's code; of success then 13 where the command
    names an open session twice, 14 where the two have different counts of entries. */
-uint32_t skein_keeper_answer(const uint8_t *command, size_t command_len, const uint8_t *response, size_t response_len,
-                             struct skein_keeper *keeper, uint64_t out[8]);
+uint32_t skein_keeper_answer(uint32_t revision, const uint8_t *command, size_t command_len, const uint8_t *response,
+                             size_t response_len, struct skein_keeper *keeper, uint64_t out[8]);
 
 /* Closes a session, where it was flushed, or where a command said that it does not go on. Gives nothing. Refuses 17. */
 uint32_t skein_keeper_close(uint32_t handle, struct skein_keeper *keeper, uint64_t out[8]);
@@ -377,7 +392,7 @@ uint32_t skein_frame_size(const uint8_t *s, size_t len, uint64_t out[8]);
 uint32_t skein_frame_len(const uint8_t *s, size_t len, uint64_t out[8]);
 uint32_t skein_frame_is_empty(const uint8_t *s, size_t len, uint64_t out[8]);
 
-/* ---- codes, tags, and the table of commands */
+/* ---- codes, tags, and the tables of commands */
 
 /* Takes a response code apart. Gives its kind, its base, the number of the part that it speaks of (0: none) and its value.
    Refuses 5(0,rc). */
@@ -387,11 +402,11 @@ uint32_t skein_rc_read(uint32_t rc, uint64_t out[8]);
    Refuses 100(0,kind). */
 uint32_t skein_rc_value(uint32_t kind, uint32_t base, uint8_t index, uint64_t out[8]);
 
-/* Gives how many handles a command has, and how many its response. Refuses 4(0,cc). */
-uint32_t skein_table_find(uint32_t cc, uint64_t out[8]);
+/* Gives how many handles a command has by a table, and how many its response. Refuses 4(0,cc). */
+uint32_t skein_table_find(uint32_t revision, uint32_t cc, uint64_t out[8]);
 
-/* Give 1 for a command code, a tag, that there is, else 0. */
-uint32_t skein_table_known(uint32_t cc, uint64_t out[8]);
+/* Give 1 for a command code that a table has, for a tag that there is, else 0. */
+uint32_t skein_table_known(uint32_t revision, uint32_t cc, uint64_t out[8]);
 uint32_t skein_tag_known(uint16_t tag, uint64_t out[8]);
 
 /* ---- fields: two or four bytes at a place */

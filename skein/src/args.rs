@@ -1,16 +1,16 @@
 //! The words of the command line.
 
-use skeinloft::{Reading, Rules, TpmCc};
+use skeinloft::{Reading, Revision, Rules, TpmCc};
 use std::ffi::OsString;
 
 pub const USAGE: &str = "\
-usage: skein inspect [--json] [--raw [--pairs]] [--answers-to COMMAND] [--reading READING] [FILE]
-       skein nonces [--json] [--raw] [FILE]";
+usage: skein inspect [--json] [--raw [--pairs]] [--answers-to COMMAND] [--reading READING] [--revision REVISION] [FILE]
+       skein nonces [--json] [--raw] [--revision REVISION] [FILE]";
 
 pub const HELP: &str = "\
 usage: skein inspect [--json] [--raw [--pairs]] [--answers-to COMMAND]
-                     [--reading READING] [FILE]
-       skein nonces [--json] [--raw] [FILE]
+                     [--reading READING] [--revision REVISION] [FILE]
+       skein nonces [--json] [--raw] [--revision REVISION] [FILE]
        skein --help | --version
 
 inspect shows TPM 2.0 command and response frames, and why a bad one is
@@ -38,6 +38,9 @@ one and why, where it closes, and what the nonce keeper refuses.
                         crate tpm2-protocol reads: it refuses what a TPM
                         answers to a command whose tag it did not understand,
                         and takes nonces and HMACs of more than 64 bytes
+  --revision REVISION   the table of commands: crate, as without this option,
+                        which is that of tpm2-protocol, or 1.38 or 1.59, of
+                        that revision of the TPM 2.0 Library
 
 The status is 0 where nothing is refused, 1 where something is or a line has
 no frame, 2 where the words are wrong or FILE cannot be read.
@@ -67,6 +70,7 @@ pub struct Inspect {
 pub struct Nonces {
     pub json: bool,
     pub raw: bool,
+    pub revision: Revision,
     /// None for standard input.
     pub file: Option<OsString>,
 }
@@ -84,12 +88,13 @@ pub fn understand(words: impl IntoIterator<Item = OsString>) -> Result<Asked, St
     }
 }
 
-fn nonces(words: impl Iterator<Item = OsString>) -> Result<Asked, String> {
+fn nonces(mut words: impl Iterator<Item = OsString>) -> Result<Asked, String> {
     let mut asked = Nonces::default();
-    for word in words {
+    while let Some(word) = words.next() {
         match word.to_str() {
             Some("--json") => asked.json = true,
             Some("--raw") => asked.raw = true,
+            Some("--revision") => asked.revision = revision(words.next())?,
             Some("--help" | "-h") => return Ok(Asked::Help),
             _ => name_file(word, &mut asked.file)?,
         }
@@ -105,7 +110,8 @@ fn inspect(mut words: impl Iterator<Item = OsString>) -> Result<Asked, String> {
             Some("--raw") => asked.raw = true,
             Some("--pairs") => asked.pairs = true,
             Some("--answers-to") => asked.answers_to = Some(command(words.next())?),
-            Some("--reading") => asked.rules = Rules { reading: reading(words.next())? },
+            Some("--reading") => asked.rules.reading = reading(words.next())?,
+            Some("--revision") => asked.rules.revision = revision(words.next())?,
             Some("--help" | "-h") => return Ok(Asked::Help),
             _ => name_file(word, &mut asked.file)?,
         }
@@ -139,6 +145,12 @@ fn reading(word: Option<OsString>) -> Result<Reading, String> {
     }
 }
 
+fn revision(word: Option<OsString>) -> Result<Revision, String> {
+    let word = word.ok_or("--revision names no REVISION")?;
+    let named = Revision::ALL.into_iter().find(|revision| word.to_str() == Some(revision.name()));
+    named.ok_or_else(|| format!("there is no revision '{}': it is crate, 1.38 or 1.59", word.to_string_lossy()))
+}
+
 /// A command by its name, with one of the Library's prefixes or without, or by its code.
 fn command(word: Option<OsString>) -> Result<TpmCc, String> {
     let word = word.ok_or("--answers-to names no COMMAND")?;
@@ -154,7 +166,7 @@ fn command(word: Option<OsString>) -> Result<TpmCc, String> {
 #[cfg(test)]
 mod tests {
     use super::{Asked, Inspect, Nonces, understand};
-    use skeinloft::{Rules, TpmCc};
+    use skeinloft::{Revision, Rules, TpmCc};
 
     fn of(words: &str) -> Result<Asked, String> {
         understand(words.split_whitespace().map(Into::into))
@@ -169,14 +181,19 @@ mod tests {
             let asked = Inspect { answers_to: Some(TpmCc::GetRandom), ..Inspect::default() };
             assert_eq!(of(&format!("inspect --answers-to {word}")), Ok(Asked::Inspect(asked)));
         }
-        for (words, rules) in
-            [("", Rules::STANDARD), ("--reading standard", Rules::STANDARD), ("--reading rust", Rules::RUST)]
-        {
+        for (words, rules) in [
+            ("", Rules::STANDARD),
+            ("--reading standard", Rules::STANDARD),
+            ("--reading rust", Rules::RUST),
+            ("--revision crate", Rules::STANDARD),
+            ("--revision 1.38", Rules::STANDARD.at(Revision::Lib138)),
+            ("--revision 1.59 --reading rust", Rules::RUST.at(Revision::Lib159)),
+        ] {
             let asked = Inspect { rules, ..Inspect::default() };
             assert_eq!(of(&format!("inspect {words}")), Ok(Asked::Inspect(asked)));
         }
-        let all = Nonces { json: true, raw: true, file: Some("f".into()) };
-        assert_eq!(of("nonces --raw f --json"), Ok(Asked::Nonces(all)));
+        let all = Nonces { json: true, raw: true, revision: Revision::Lib159, file: Some("f".into()) };
+        assert_eq!(of("nonces --raw --revision 1.59 f --json"), Ok(Asked::Nonces(all)));
         assert_eq!(of("nonces -"), Ok(Asked::Nonces(Nonces::default())));
         assert_eq!((of("nonces -h"), of("inspect f --help")), (Ok(Asked::Help), Ok(Asked::Help)));
     }
@@ -194,8 +211,11 @@ mod tests {
             "inspect --raw --pairs --answers-to Load",
             "inspect --reading",
             "inspect --reading Rust",
+            "inspect --revision",
+            "inspect --revision 159",
             "nonces --pairs",
             "nonces --reading rust",
+            "nonces --revision 1.60",
             "nonces a b",
         ] {
             assert!(of(words).is_err(), "{words}");

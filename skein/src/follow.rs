@@ -4,7 +4,7 @@
 use crate::input::Place;
 use crate::look::code;
 use skeinloft::{
-    CommandParts, Keeper, Refusal, ResponseParts, Rules, Tpm2b, TpmCc, TpmCommand, TpmRc, TpmResponse, TpmRh,
+    CommandParts, Keeper, Refusal, ResponseParts, Revision, Rules, Tpm2b, TpmCc, TpmCommand, TpmRc, TpmResponse, TpmRh,
     TpmaSession,
 };
 use std::borrow::Cow;
@@ -45,6 +45,8 @@ const STATE: [u8; 2] = [0, 1];
 
 #[derive(Default)]
 pub struct Sessions {
+    /// The table that frames are read by.
+    revision: Revision,
     keeper: Keeper,
     /// Those that the keeper has open, in the order in which they were opened.
     open: Vec<Open>,
@@ -61,11 +63,17 @@ struct Open {
 }
 
 impl Sessions {
+    /// None yet, and frames are read by this table.
+    pub fn at(revision: Revision) -> Self {
+        Self { revision, ..Self::default() }
+    }
+
     /// Takes a command and its answer, and tells what came of them.
     pub fn pair(&mut self, place: Place, command: &[u8], answer: &[u8]) -> Vec<Event> {
-        let taken = self.keeper.answer(command, answer);
-        let read = TpmCommand::cast(Rules::STANDARD, command).and_then(|command| command.parts());
-        let given = read.and_then(|parts| TpmResponse::cast(Rules::STANDARD, answer)?.parts(parts.cc));
+        let rules = Rules::STANDARD.at(self.revision);
+        let taken = self.keeper.answer(self.revision, command, answer);
+        let read = TpmCommand::cast(rules, command).and_then(|command| command.parts());
+        let given = read.and_then(|parts| TpmResponse::cast(rules, answer)?.parts(parts.cc));
         match (taken, read, given) {
             (Err(refusal), Err(_), _) => vec![refused("command", refusal, succeeds(answer).then_some(CARRIED_OUT))],
             (Err(refusal), Ok(read), given) => {
@@ -243,7 +251,8 @@ mod tests {
     };
     use crate::input::Place;
     use skeinloft::{
-        Area, CommandParts, Refusal, ResponseMode, ResponseParts, Rules, TpmCc, TpmRc, TpmSt, TpmaSession, TpmsAuth,
+        Area, CommandParts, Refusal, ResponseMode, ResponseParts, Revision, Rules, TpmCc, TpmRc, TpmSt, TpmaSession,
+        TpmsAuth,
     };
 
     const HMAC: u32 = 0x0200_0000;
@@ -251,7 +260,7 @@ mod tests {
     const PASSWORD: u32 = 0x4000_0009;
     const GOES_ON: u8 = 0x01;
 
-    /// A command and a success answer, written by the library.
+    /// A command and a success answer, written by the library. Its table has all commands that are written here.
     struct Pair {
         cc: TpmCc,
         handles: [u32; 2],
@@ -289,16 +298,17 @@ mod tests {
             let tag = if entries.is_empty() { TpmSt::NoSessions } else { TpmSt::Sessions };
             let handles = self.handles.map(u32::to_be_bytes).concat();
             let handles = match self.cc {
-                TpmCc::StartAuthSession => &handles[..],
+                TpmCc::StartAuthSession | TpmCc::CertifyX509 => &handles[..],
                 TpmCc::ContextSave => &handles[..4],
                 _ => &[],
             };
+            let revision = Revision::Lib159;
             let command = CommandParts { tag, cc: self.cc, handles, sessions, parameters: &self.parameters };
-            let len = command.marshal(Rules::STANDARD, &mut room).expect("a command");
+            let len = command.marshal(Rules::STANDARD.at(revision), &mut room).expect("a command");
             let first = room[..len].to_vec();
             let handles = self.answer_handle.map(u32::to_be_bytes).map_or(Vec::new(), Vec::from);
             let (mode, rc) = (ResponseMode::Standard, TpmRc::SUCCESS);
-            let answer = ResponseParts { mode, rc, handles: &handles, sessions, parameters: &self.answer };
+            let answer = ResponseParts { mode, revision, rc, handles: &handles, sessions, parameters: &self.answer };
             let len = answer.marshal(self.cc, &mut room).expect("an answer");
             [first, room[..len].to_vec()]
         }
@@ -427,12 +437,22 @@ mod tests {
         let differ = super::refused("pair", Refusal::CountsDiffer, None);
         assert_eq!(said(&command, &without), [differ, stays(MISSED)]);
 
-        // a command that is none to this table: whether the TPM did it tells the answer
-        let mut other = command.clone();
-        other[8..10].copy_from_slice(&[0x01, 0x97]);
+        // a command that is not in this table: whether the TPM did it tells the answer
+        let [other, answer] = Pair::new(TpmCc::CertifyX509, &[]).frames(&[(HMAC, GOES_ON, b"next")]);
         let none = Refusal::InvalidCc { area: Area::Header, offset: 6, value: 0x197 };
         assert_eq!(said(&other, &answer), [super::refused("command", none, Some(CARRIED_OUT))]);
         assert_eq!(said(&other, &error), [super::refused("command", none, None)]);
         assert_eq!(said(&command, &answer), [does(HMAC, Does::Move, Some(b"next"), None)]);
+    }
+
+    #[test]
+    fn a_table_tells_which_commands_there_are() {
+        for revision in Revision::ALL {
+            let mut sessions = Sessions::at(revision);
+            happens(&mut sessions, &Pair::start(HMAC, b"first"), &[]);
+            happens(&mut sessions, &Pair::new(TpmCc::CertifyX509, &[]), &[(HMAC, GOES_ON, b"next")]);
+            let due = if revision == Revision::Lib159 { &b"next"[..] } else { b"first" };
+            assert!(sessions.open().eq([(HMAC, due, Place::Line(1))]), "{revision}");
+        }
     }
 }

@@ -4,11 +4,11 @@
 use crate::hex::Hex;
 use crate::input::Place;
 use crate::look::{self, Inside, Kind, Part, Seen};
-use skeinloft::Refusal;
+use skeinloft::{Refusal, Revision};
 use std::fmt::{self, Write};
 
 pub fn show(place: Place, seen: &Seen, out: &mut String) -> fmt::Result {
-    open(place, out)?;
+    open(place, seen.revision, out)?;
     match seen.kind {
         Kind::Command => write!(out, ",\"kind\":\"command\"")?,
         Kind::Answer(cc) => write!(out, ",\"kind\":\"answer\",\"command\":\"{cc}\"")?,
@@ -35,12 +35,13 @@ pub fn show(place: Place, seen: &Seen, out: &mut String) -> fmt::Result {
     writeln!(out, "}}")
 }
 
-/// An object starts with its place.
-pub fn open(place: Place, out: &mut String) -> fmt::Result {
+/// An object starts with its place, and the table of commands where that is not the crate's.
+pub fn open(place: Place, revision: Revision, out: &mut String) -> fmt::Result {
     match place {
-        Place::Line(line) => write!(out, "{{\"line\":{line}"),
-        Place::Byte(byte) => write!(out, "{{\"byte\":{byte}"),
+        Place::Line(line) => write!(out, "{{\"line\":{line}")?,
+        Place::Byte(byte) => write!(out, "{{\"byte\":{byte}")?,
     }
+    if revision == Revision::Crate { Ok(()) } else { write!(out, ",\"revision\":\"{revision}\"") }
 }
 
 pub fn show_refusal(refusal: &Refusal, out: &mut String) -> fmt::Result {

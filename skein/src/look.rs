@@ -2,8 +2,8 @@
 
 use crate::text::{count, in_full};
 use skeinloft::{
-    Area, Areas, Reading, Refusal, ResponseParts, Rules, Sessions, TpmCc, TpmCommand, TpmRc, TpmResponse, TpmRh, TpmSt,
-    TpmsAuth,
+    Area, Areas, Reading, Refusal, ResponseParts, Revision, Rules, Sessions, TpmCc, TpmCommand, TpmRc, TpmResponse,
+    TpmRh, TpmSt, TpmsAuth,
 };
 use std::borrow::Cow;
 use std::ops::Range;
@@ -21,6 +21,8 @@ pub enum Role {
 /// A frame that was looked at.
 pub struct Seen<'a> {
     pub bytes: &'a [u8],
+    /// The table of commands that it was looked at by.
+    pub revision: Revision,
     pub kind: Kind,
     /// The name of the command, or of the response code.
     pub name: Option<String>,
@@ -92,13 +94,40 @@ const MANGLED: &str = "its entries fit in neither reading, so it was most likely
 
 /// Looks at a frame.
 pub fn look(rules: Rules, bytes: &[u8], role: Role) -> Seen<'_> {
-    let seen = take(rules, bytes, role);
-    match seen.verdict {
-        Err(Refusal::TooManyBytes { offset, limit, actual, .. }) => {
-            Seen { notes: long_field(bytes, seen.kind, offset, limit, actual).unwrap_or_default(), ..seen }
+    let mut seen = take(rules, bytes, role);
+    let more = match &seen.verdict {
+        &Err(Refusal::TooManyBytes { offset, limit, actual, .. }) => {
+            long_field(&seen, offset, limit, actual).unwrap_or_default()
         }
-        _ => seen,
+        Err(refusal) => hint(refusal),
+        Ok(_) => Vec::new(),
+    };
+    seen.notes.extend(more);
+    seen
+}
+
+/// Of a command code that is not in the table: which tables have it.
+fn hint(refusal: &Refusal) -> Vec<Note> {
+    other_tables(refusal).map(|words| ("hint", words.into())).into_iter().collect()
+}
+
+/// A table in words.
+pub fn table(revision: Revision) -> String {
+    match revision {
+        Revision::Crate => "the crate's table".to_owned(),
+        _ => format!("the table of revision {revision}"),
     }
+}
+
+/// The tables that have a command code which is refused by another, and how to name them.
+pub fn other_tables(refusal: &Refusal) -> Option<String> {
+    let &Refusal::InvalidCc { value, .. } = refusal else { return None };
+    let cc = TpmCc(u32::try_from(value).ok()?);
+    let all: Vec<Revision> = Revision::ALL.into_iter().filter(|revision| revision.has(cc)).collect();
+    let listed = |of: fn(Revision) -> String, between| all.iter().map(|&it| of(it)).collect::<Vec<_>>().join(between);
+    let have = if all.len() == 1 { "has" } else { "have" };
+    let said = || format!("{} {have} {cc}: --revision {}", listed(table, " and "), listed(|it| it.to_string(), " or "));
+    (!all.is_empty()).then(said)
 }
 
 /// Takes a frame for what it is to be.
@@ -113,7 +142,9 @@ fn take(rules: Rules, bytes: &[u8], role: Role) -> Seen<'_> {
         Role::Alone => {
             let seen = command(rules, bytes);
             match seen.verdict {
-                Err(Refusal::InvalidCc { .. }) => response(rules, bytes, ALONE_RESPONSE),
+                Err(refusal @ Refusal::InvalidCc { .. }) => {
+                    Seen { notes: hint(&refusal), ..response(rules, bytes, ALONE_RESPONSE) }
+                }
                 _ => Seen { assumed: Some(alone_command(rules, bytes)), ..seen },
             }
         }
@@ -138,7 +169,8 @@ pub fn code(bytes: &[u8]) -> Option<u32> {
 
 fn command(rules: Rules, bytes: &[u8]) -> Seen<'_> {
     let name = code(bytes).and_then(|code| TpmCc(code).name()).map(str::to_owned);
-    Seen { bytes, kind: Kind::Command, name, assumed: None, notes: Vec::new(), verdict: command_parts(rules, bytes) }
+    let (revision, kind, verdict) = (rules.revision, Kind::Command, command_parts(rules, bytes));
+    Seen { bytes, revision, kind, name, assumed: None, notes: Vec::new(), verdict }
 }
 
 fn command_parts(rules: Rules, bytes: &[u8]) -> Result<Vec<Part>, Refusal> {
@@ -165,7 +197,7 @@ fn any_response(rules: Rules, bytes: &[u8], kind: Kind, verdict: Result<Vec<Part
         (Reading::Standard, Err(_)) => vec![("meaning", BAD_TAG_REFUSED.into()), ("advice", BAD_TAG_ADVICE.into())],
         (Reading::Rust, _) => vec![("hint", BAD_TAG_HINT.into())],
     };
-    Seen { bytes, kind, name, assumed: None, notes, verdict }
+    Seen { bytes, revision: rules.revision, kind, name, assumed: None, notes, verdict }
 }
 
 fn answer(rules: Rules, bytes: &[u8], cc: TpmCc) -> Seen<'_> {
@@ -210,13 +242,13 @@ fn response<'a>(rules: Rules, bytes: &'a [u8], assumed: &'static str) -> Seen<'a
 
 /// What there is to say of a long nonce or HMAC, by the place of its size: which one it is, what to do, and what the rust
 /// reading says of the frame.
-fn long_field(bytes: &[u8], kind: Kind, offset: usize, limit: usize, actual: usize) -> Option<Vec<Note>> {
-    let field = field_at(bytes, kind, offset)?;
+fn long_field(seen: &Seen, offset: usize, limit: usize, actual: usize) -> Option<Vec<Note>> {
+    let field = field_at(seen, offset)?;
     let meaning = format!(
         "the {field} is longer than any digest: its size at byte {offset} says {}, and the limit is {limit}",
         count(actual, "byte")
     );
-    let (advice, there) = match sessions(Rules::RUST, bytes, kind) {
+    let (advice, there) = match sessions(Rules::RUST.at(seen.revision), seen.bytes, seen.kind) {
         Ok(_) => (WRITTEN_LONG, "passes".to_owned()),
         Err(refusal) => (MANGLED, format!("is refused for something else, {}", in_full(&refusal))),
     };
@@ -236,7 +268,7 @@ pub fn refused_in(seen: &Seen, refusal: &Refusal) -> Option<Range<usize>> {
         Area::Handles => Some(HEADER..len),
         area => {
             // behind the handles there is a size, and what it sizes: entries in a command, parameters in a response
-            let from = handles_end(bytes, seen.kind)?;
+            let from = handles_end(seen)?;
             let size = bytes[from..].first_chunk().map(|&field| u32::from_be_bytes(field));
             let end = size.map(|size| from + 4 + size as usize).filter(|&end| end <= len).unwrap_or(len);
             let sized = if seen.kind == Kind::Command { Area::Authorization } else { Area::Parameters };
@@ -251,19 +283,21 @@ pub fn is_of_command(seen: &Seen, refusal: &Refusal) -> bool {
 }
 
 /// Where the handles of a frame end: under the plain tag nothing is divided behind them.
-fn handles_end(bytes: &[u8], kind: Kind) -> Option<usize> {
-    let mut plain = bytes.to_vec();
+fn handles_end(seen: &Seen) -> Option<usize> {
+    let (rules, mut plain) = (Rules::STANDARD.at(seen.revision), seen.bytes.to_vec());
     plain[..2].copy_from_slice(&TpmSt::NoSessions.value().to_be_bytes());
-    let areas = match kind {
-        Kind::Answer(cc) => TpmResponse::cast(Rules::STANDARD, &plain).and_then(|response| response.areas(cc)),
-        _ => TpmCommand::cast(Rules::STANDARD, &plain).and_then(|command| command.areas()),
+    let areas = match seen.kind {
+        Kind::Answer(cc) => TpmResponse::cast(rules, &plain).and_then(|response| response.areas(cc)),
+        _ => TpmCommand::cast(rules, &plain).and_then(|command| command.areas()),
     };
     areas.ok().map(|areas| areas.handles.end)
 }
 
 /// Which nonce or HMAC has its size at a place. The frame passes that ends behind an empty one in its stead: behind an HMAC at
 /// once, and behind a nonce with an attribute byte and an empty HMAC.
-fn field_at(bytes: &[u8], kind: Kind, offset: usize) -> Option<String> {
+fn field_at(seen: &Seen, offset: usize) -> Option<String> {
+    let (bytes, kind) = (seen.bytes, seen.kind);
+    let [rust, standard] = [Rules::RUST, Rules::STANDARD].map(|rules| rules.at(seen.revision));
     [("HMAC", 2), ("nonce", 5)].into_iter().find_map(|(name, zeros)| {
         let mut ended = bytes[..offset].to_vec();
         ended.resize(offset + zeros, 0);
@@ -271,10 +305,10 @@ fn field_at(bytes: &[u8], kind: Kind, offset: usize) -> Option<String> {
         ended[2..6].copy_from_slice(&(len as u32).to_be_bytes());
         if kind == Kind::Command {
             // their size is before the entries
-            let from = place(bytes, TpmCommand::cast(Rules::RUST, bytes).ok()?.auth_area().ok()?).start;
+            let from = place(bytes, TpmCommand::cast(rust, bytes).ok()?.auth_area().ok()?).start;
             ended[from - 4..from].copy_from_slice(&((len - from) as u32).to_be_bytes());
         }
-        let sessions = sessions(Rules::STANDARD, &ended, kind).ok()?;
+        let sessions = sessions(standard, &ended, kind).ok()?;
         let is_password = |entry: TpmsAuth| name == "HMAC" && TpmRh(entry.session_handle) == TpmRh::Pw;
         let password = if sessions.iter().last().is_some_and(is_password) { ", a password," } else { "" };
         Some(format!("{name} of session {}{password}", sessions.len()))

@@ -83,7 +83,7 @@ fn inspect(asked: &Inspect) -> u8 {
 
 fn nonces(asked: &Nonces) -> u8 {
     let Some((input, out)) = both_ends(asked.file.as_deref()) else { return WRONG };
-    let mut show = nonces::Show::new(asked.json, out);
+    let mut show = nonces::Show::new(asked.json, asked.revision, out);
     let read = if asked.raw {
         input::raw(input, Role::Alone, true, &mut show)
     } else {

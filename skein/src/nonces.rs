@@ -4,10 +4,10 @@ use crate::follow::{Does, Event, Sessions, Why, kind};
 use crate::hex::Hex;
 use crate::input::{Place, Stop, Taker};
 use crate::json;
-use crate::look::{Role, code};
+use crate::look::{Role, code, other_tables, table};
 use crate::out::Out;
 use crate::text::in_full;
-use skeinloft::TpmCc;
+use skeinloft::{Revision, TpmCc};
 use std::fmt::{self, Write as _};
 use std::io::{self, Write};
 
@@ -16,6 +16,7 @@ const NO_ANSWER: &str = "a command without an answer";
 
 pub struct Show<W: Write> {
     json: bool,
+    revision: Revision,
     sessions: Sessions,
     /// A command whose answer is to come, and where it is.
     command: Vec<u8>,
@@ -64,9 +65,9 @@ impl<W: Write> Taker for Show<W> {
 }
 
 impl<W: Write> Show<W> {
-    pub fn new(json: bool, out: Out<W>) -> Self {
-        let (sessions, count) = (Sessions::default(), Count::default());
-        Self { json, sessions, command: Vec::new(), waits: None, count, shown: String::new(), out }
+    pub fn new(json: bool, revision: Revision, out: Out<W>) -> Self {
+        let (sessions, count) = (Sessions::at(revision), Count::default());
+        Self { json, revision, sessions, command: Vec::new(), waits: None, count, shown: String::new(), out }
     }
 
     /// Puts what came of a pair into lines.
@@ -77,7 +78,7 @@ impl<W: Write> Show<W> {
         self.shown.clear();
         for event in self.sessions.pair(place, &self.command, answer) {
             self.count.add(&event);
-            show(place, name, &event, &mut self.shown)?;
+            show(place, self.revision, name, &event, &mut self.shown)?;
         }
         Ok(())
     }
@@ -88,7 +89,7 @@ impl<W: Write> Show<W> {
         let mut last = String::new();
         let open = self.sessions.open().try_for_each(|(handle, nonce, since)| {
             let show = if self.json { json_open } else { text_open };
-            show(handle, nonce, since, &mut last)
+            show(handle, nonce, since, self.revision, &mut last)
         });
         let counted = open.and_then(|()| self.tell_count(&mut last)).map_err(io::Error::other);
         self.out.end(read.and(told.and(counted).map_err(Stop::Out)), &last, self.count.refused > 0)
@@ -109,6 +110,9 @@ impl<W: Write> Show<W> {
             if *number > 0 {
                 write!(out, ", {name} {number}")?;
             }
+        }
+        if self.revision != Revision::Crate {
+            write!(out, "; by {}", table(self.revision))?;
         }
         writeln!(out)
     }
@@ -142,27 +146,29 @@ fn words(does: Does) -> (&'static str, &'static str) {
 
 // ---- as a person reads it
 
-fn show_text(place: Place, command: Option<TpmCc>, event: &Event, out: &mut String) -> fmt::Result {
+/// The table is told at the end.
+fn show_text(place: Place, _: Revision, command: Option<TpmCc>, event: &Event, out: &mut String) -> fmt::Result {
     write!(out, "{place}: ")?;
     if let Some(command) = command {
         write!(out, "{command}: ")?;
     }
-    let (mark, why) = match event {
+    let (mark, why, hint) = match event {
         Event::Session { handle, does, nonce, why } => {
             write!(out, "{} {}", name_of(*handle), words(*does).0)?;
             nonce.iter().try_for_each(|nonce| write!(out, " {}", bytes(nonce)))?;
-            (':', why)
+            (':', why, None)
         }
         Event::Refused { what, refusal, why } => {
             write!(out, "the {what} is REFUSED: {}", in_full(refusal))?;
-            (';', why)
+            (';', why, other_tables(refusal))
         }
     };
     why.iter().try_for_each(|why| write!(out, "{mark} {why}"))?;
+    hint.iter().try_for_each(|hint| write!(out, "; {hint}"))?;
     writeln!(out)
 }
 
-fn text_open(handle: u32, nonce: &[u8], since: Place, out: &mut String) -> fmt::Result {
+fn text_open(handle: u32, nonce: &[u8], since: Place, _: Revision, out: &mut String) -> fmt::Result {
     writeln!(out, "{} is still open with the nonce {} of {since}", name_of(handle), bytes(nonce))
 }
 
@@ -176,29 +182,30 @@ fn bytes(nonce: &[u8]) -> String {
 
 // ---- as JSON
 
-fn show_json(place: Place, command: Option<TpmCc>, event: &Event, out: &mut String) -> fmt::Result {
-    json::open(place, out)?;
+fn show_json(place: Place, revision: Revision, command: Option<TpmCc>, event: &Event, out: &mut String) -> fmt::Result {
+    json::open(place, revision, out)?;
     if let Some(command) = command {
         write!(out, ",\"command\":\"{command}\"")?;
     }
-    let why: &Option<Why> = match event {
+    let (why, hint): (&Option<Why>, _) = match event {
         Event::Session { handle, does, nonce, why } => {
             write!(out, ",\"event\":\"{}\"", words(*does).1)?;
             json_session(*handle, nonce.as_deref(), out)?;
-            why
+            (why, None)
         }
         Event::Refused { what, refusal, why } => {
             write!(out, ",\"event\":\"refused\",\"what\":\"{what}\"")?;
             json::show_refusal(refusal, out)?;
-            why
+            (why, other_tables(refusal))
         }
     };
     why.iter().try_for_each(|why| write!(out, ",\"why\":\"{why}\""))?;
+    hint.iter().try_for_each(|hint| write!(out, ",\"hint\":\"{hint}\""))?;
     writeln!(out, "}}")
 }
 
-fn json_open(handle: u32, nonce: &[u8], since: Place, out: &mut String) -> fmt::Result {
-    json::open(since, out)?;
+fn json_open(handle: u32, nonce: &[u8], since: Place, revision: Revision, out: &mut String) -> fmt::Result {
+    json::open(since, revision, out)?;
     write!(out, ",\"event\":\"open\"")?;
     json_session(handle, Some(nonce), out)?;
     writeln!(out, "}}")

@@ -3,7 +3,7 @@
 use crate::hex::Hex;
 use crate::input::Place;
 use crate::look::{self, Inside, Kind, Part, Seen};
-use skeinloft::Refusal;
+use skeinloft::{Refusal, Revision};
 use std::fmt::{self, Write};
 use std::ops::Range;
 
@@ -12,6 +12,9 @@ const ROW: usize = 32;
 
 pub fn show(place: Place, seen: &Seen, out: &mut String) -> fmt::Result {
     title(place, seen, out)?;
+    if seen.revision != Revision::Crate {
+        writeln!(out, "  revision: {}", seen.revision)?;
+    }
     if let Some(assumed) = &seen.assumed {
         writeln!(out, "  assumed: {assumed}")?;
     }

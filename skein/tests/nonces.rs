@@ -1,5 +1,5 @@
 //! `skein nonces` on recorded traffic: the nonces that it names are those that stand in the answers, each of them, in order.
-//! They are read here by the library's calls that give all parts, without its keeper.
+//! They are read here by the library's calls that give all parts, without its keeper, by each table.
 
 mod common;
 
@@ -11,6 +11,10 @@ const PASSWORD: u32 = 0x4000_0009;
 const START: u32 = 0x176;
 const FLUSH: u32 = 0x165;
 
+/// The numbers of the tables, and the words that `skein` takes for them.
+const TABLES: [(u32, &str); 3] =
+    [(calls::REVISION_CRATE, "crate"), (calls::REVISION_138, "1.38"), (calls::REVISION_159, "1.59")];
+
 /// A line, what a session does there, its handle, and its nonce in hexadecimal.
 type Told = (usize, String, String, String);
 
@@ -19,11 +23,11 @@ fn hex(bytes: &[u8]) -> String {
 }
 
 /// The sessions that open and move, and how many end, by the frames of a line.
-fn due(line: usize, text: &str, told: &mut Vec<Told>) -> usize {
+fn due(rules: u32, line: usize, text: &str, told: &mut Vec<Told>) -> usize {
     let (command, answer) = text.split_once(' ').expect("a command and its answer");
     let (command, answer) = (unhex(command), unhex(answer));
-    let read = calls::command_parts(calls::STANDARD, &command, &mut [0; 8]);
-    let given = calls::response_parts(calls::STANDARD, read.frame.code, &answer, &mut [0; 8]);
+    let read = calls::command_parts(rules, &command, &mut [0; 8]);
+    let given = calls::response_parts(rules, read.frame.code, &answer, &mut [0; 8]);
     if read.refusal != 0 || given.refusal != 0 || given.frame.code != 0 {
         return 0;
     }
@@ -43,9 +47,9 @@ fn due(line: usize, text: &str, told: &mut Vec<Told>) -> usize {
 }
 
 /// What `skein` says of opening and moving, and how many sessions it says to end.
-fn said(file: &Path) -> (Vec<Told>, usize) {
-    let run =
-        Command::new(env!("CARGO_BIN_EXE_skein")).args(["nonces", "--json"]).arg(file).output().expect("skein runs");
+fn said(revision: &str, file: &Path) -> (Vec<Told>, usize) {
+    let words = ["nonces", "--json", "--revision", revision];
+    let run = Command::new(env!("CARGO_BIN_EXE_skein")).args(words).arg(file).output().expect("skein runs");
     let text = String::from_utf8(run.stdout).expect("text");
     let field = |line: &str, name: &str| {
         let (_, behind) = line.split_once(&format!("\"{name}\":")).unwrap_or_default();
@@ -67,12 +71,15 @@ fn recorded_nonces() {
     let (mut nonces, mut ends) = (0, 0);
     for file in traces {
         let text = std::fs::read_to_string(&file).expect("a file of frames");
-        let mut told = Vec::new();
-        let ended: usize = text.lines().zip(1..).map(|(text, line)| due(line, text, &mut told)).sum();
-        nonces += told.len();
-        ends += ended;
-        assert_eq!(said(&file), (told, ended), "{}", file.display());
+        for (number, revision) in TABLES {
+            let mut told = Vec::new();
+            let due = |(text, line)| due(calls::STANDARD + number, line, text, &mut told);
+            let ended: usize = text.lines().zip(1..).map(due).sum();
+            nonces += told.len();
+            ends += ended;
+            assert_eq!(said(revision, &file), (told, ended), "{}, {revision}", file.display());
+        }
     }
-    println!("{nonces} recorded nonces, {ends} sessions end");
+    println!("{nonces} recorded nonces, {ends} sessions end, by the three tables together");
     assert!(nonces > 0);
 }

@@ -1,5 +1,5 @@
 //! `skein inspect` on recorded and published frames: each has the verdict of the library, which is asked here by its calls, in
-//! both readings.
+//! both readings and by each table.
 //! The frames are those that the comparison keeps, and where there are any those that SKEIN_TRAFFIC names, else those of
 //! ../shared/facts beside the repository.
 
@@ -22,7 +22,13 @@ const PASSES: Said = (0, Vec::new(), "");
 const AREAS: [&str; 5] = ["none", "header", "handles", "authorization", "parameters"];
 
 /// The numbers of the rules, and the words that `skein` takes for them.
-const READINGS: [(u32, &[&str]); 2] = [(calls::STANDARD, &[]), (calls::RUST, &["--reading", "rust"])];
+const RULES: [(u32, &[&str]); 5] = [
+    (calls::STANDARD, &[]),
+    (calls::RUST, &["--reading", "rust"]),
+    (calls::STANDARD + calls::REVISION_138, &["--revision", "1.38"]),
+    (calls::STANDARD + calls::REVISION_159, &["--revision", "1.59"]),
+    (calls::RUST + calls::REVISION_159, &["--reading", "rust", "--revision", "1.59"]),
+];
 
 /// Some command that has a row: TPM2_Startup.
 const SOME: u32 = 0x144;
@@ -79,9 +85,9 @@ fn pair(rules: u32, line: &str) -> [Said; 2] {
     [said(|out| calls::command_validate(rules, &command, out)), said(judged)]
 }
 
-/// Holds `skein` to the library on a file of pairs, in both readings, and tells how many frames it has.
+/// Holds `skein` to the library on a file of pairs, by all rules, and tells how many frames it has.
 fn check(file: &Path) -> usize {
-    let [frames, _] = READINGS.map(|(rules, words)| check_by(rules, words, file));
+    let [frames, ..] = RULES.map(|(rules, words)| check_by(rules, words, file));
     frames
 }
 
@@ -120,7 +126,7 @@ fn published_frames() {
     let text = std::fs::read_to_string(facts.join("published-frames.csv")).expect("a table of frames");
     let mut frames = 0;
     for row in text.lines().skip(1) {
-        READINGS.iter().for_each(|&(rules, words)| check_row(rules, words, row));
+        RULES.iter().for_each(|&(rules, words)| check_row(rules, words, row));
         frames += 1;
     }
     println!("{frames} published frames");
@@ -171,11 +177,11 @@ fn under_the_tag_of_the_answer_to_a_bad_tag() {
     let codes = (0..0x1000u32).chain([0x1_001E, u32::MAX]);
     let frame = |code| ["", "00"].map(|behind| format!("00c4{:08x}{code:08x}{behind}", 10 + behind.len() / 2));
     let frames: Vec<String> = codes.flat_map(frame).collect();
-    for (rules, words) in READINGS {
+    for (rules, words) in RULES {
         let judged = |hex: &String| said(|out| calls::response_validate(rules, SOME, &unhex(hex), out));
         let theirs: Vec<Said> = frames.iter().map(judged).collect();
         let passing = theirs.iter().zip(&frames).filter(|(said, _)| **said == PASSES).map(|(_, hex)| hex.as_str());
-        let due: &[&str] = if rules == calls::STANDARD { &["00c40000000a0000001e"] } else { &[] };
+        let due: &[&str] = if words.contains(&"rust") { &[] } else { &["00c40000000a0000001e"] };
         assert!(passing.eq(due.iter().copied()));
         assert_eq!(shown(skein(words), &frames.join("\n")), theirs);
     }
@@ -228,6 +234,35 @@ fn long_fields_are_named() {
     }
 }
 
+/// Where a code is refused by one table, the tables that have it are named; else none is.
+#[test]
+fn other_tables_are_named() {
+    let tables =
+        [(calls::REVISION_CRATE, "the crate's table"), (calls::REVISION_138, "1.38 "), (calls::REVISION_159, "1.59 ")];
+    let codes: Vec<u32> = (0..0x200).chain([0x2000_0000, u32::MAX]).collect();
+    let pairs: Vec<String> = codes.iter().map(|code| format!("80010000000a{code:08x} 80010000000a00000000")).collect();
+    let mut named = BTreeSet::new();
+    for (rules, words) in RULES {
+        let shown = String::from_utf8(written(skein(words), &pairs.join("\n"))).expect("text");
+        assert_eq!(shown.lines().count(), 2 * codes.len());
+        for (line, &code) in shown.lines().zip(codes.iter().flat_map(|code| [code; 2])) {
+            let (refused, ..) = one_told(line);
+            let hint = line.split_once("\"hint\":\"").map_or("", |(_, behind)| behind);
+            for (number, table) in tables {
+                let mut out = [0; 8];
+                calls::table_known(number, code, &mut out);
+                let due = refused == 4 && out[0] == 1;
+                assert_eq!(hint.contains(table), due, "{rules:#x} {line}");
+                named.extend(due.then_some((rules / 16, table)));
+            }
+        }
+    }
+    assert_eq!(
+        named.into_iter().collect::<Vec<_>>(),
+        [(0, "1.59 "), (1, "1.59 "), (1, "the crate's table"), (2, "the crate's table")]
+    );
+}
+
 /// A TPM2_Load with a session, and an answer to it: both have a handle.
 const LOAD: u32 = 0x157;
 const LOADED: [(bool, &str); 2] = [
@@ -252,7 +287,7 @@ fn damaged(hex: &str) -> Vec<Vec<u8>> {
 /// Where an area is, by the table and the size behind the handles; the end of the bytes is the end of what is short.
 fn area_at(command: bool, area: &str, bytes: &[u8]) -> [usize; 2] {
     let mut out = [0; 8];
-    assert_eq!(calls::table_find(LOAD, &mut out), 0);
+    assert_eq!(calls::table_find(calls::REVISION_CRATE, LOAD, &mut out), 0);
     let [of_command, of_answer, ..] = out;
     let (header, len) = (10, bytes.len());
     let handles = header + 4 * if command { of_command } else { of_answer } as usize;

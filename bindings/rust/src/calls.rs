@@ -19,6 +19,12 @@ pub const RUST: u32 = 0;
 pub const STANDARD: u32 = 1;
 pub const STANDARD_BAD_TAG: u32 = 2;
 
+/// The numbers of the tables of commands: the crate's, and those of the Library's revisions 1.38 and 1.59. Added to the
+/// number of the rules they name the table by which a call judges.
+pub const REVISION_CRATE: u32 = 0x00;
+pub const REVISION_138: u32 = 0x10;
+pub const REVISION_159: u32 = 0x20;
+
 /// A part of a frame, by its start and its end.
 #[repr(C)]
 #[derive(Clone, Copy, Debug, Default, PartialEq, Eq)]
@@ -152,8 +158,8 @@ calls! {
     pub fn tpm2b_is_empty([s: &[u8]]);
     pub fn tpm2b_len([s: &[u8]]);
 
-    pub fn table_find(cc: u32, []);
-    pub fn table_known(cc: u32, []);
+    pub fn table_find(revision: u32, cc: u32, []);
+    pub fn table_known(revision: u32, cc: u32, []);
     pub fn tag_known(tag: u16, []);
 
     pub fn frame_tag([s: &[u8]]);
@@ -309,9 +315,10 @@ calls! {
     pub fn keeper_len(keeper: &Keeper, []);
 }
 
-pub fn keeper_answer(command: &[u8], response: &[u8], keeper: &mut Keeper, out: &mut Out) -> u32 {
+pub fn keeper_answer(revision: u32, command: &[u8], response: &[u8], keeper: &mut Keeper, out: &mut Out) -> u32 {
     unsafe extern "C" {
         fn skein_keeper_answer(
+            revision: u32,
             command: *const u8,
             command_len: usize,
             response: *const u8,
@@ -322,5 +329,5 @@ pub fn keeper_answer(command: &[u8], response: &[u8], keeper: &mut Keeper, out: 
     }
     let ((command, c), (response, r)) = (command.lent(), response.lent());
     // SAFETY: as above.
-    unsafe { skein_keeper_answer(command, c, response, r, keeper, out) }
+    unsafe { skein_keeper_answer(revision, command, c, response, r, keeper, out) }
 }

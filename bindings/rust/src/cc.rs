@@ -5,15 +5,16 @@ use crate::names::names;
 names! {
     /// A command code (Part 2, `TPM_CC`).
     ///
-    /// It can hold any number: whether a command has it is for the calls to say. The constants have the names of
-    /// tpm2-protocol's `TpmCc`.
+    /// It can hold any number: whether a command has it is for the calls to say, by a table, see
+    /// [`Revision`](crate::Revision). Each code of a table has a name. The constants have the names of tpm2-protocol's `TpmCc`,
+    /// which lacks [`CertifyX509`](Self::CertifyX509).
     ///
     /// ```
     /// use skeinloft::TpmCc;
     ///
     /// assert_eq!(TpmCc::GetRandom, TpmCc(0x17B));
     /// assert_eq!(TpmCc::GetRandom.to_string(), "TPM2_GetRandom");
-    /// assert_eq!(TpmCc(0x197).to_string(), "0x00000197");
+    /// assert_eq!(TpmCc(0x123).to_string(), "0x00000123");
     /// ```
     TpmCc(u32) "TPM2_" GetRandom
     NvUndefineSpaceSpecial = 0x11F "NV_UndefineSpaceSpecial",
@@ -131,6 +132,7 @@ names! {
     AcGetCapability = 0x194 "AC_GetCapability",
     AcSend = 0x195 "AC_Send",
     PolicyAcSendSelect = 0x196 "Policy_AC_SendSelect",
+    CertifyX509 = 0x197 "CertifyX509",
     ActSetTimeout = 0x198 "ACT_SetTimeout",
     EccEncrypt = 0x199 "ECC_Encrypt",
     EccDecrypt = 0x19A "ECC_Decrypt",

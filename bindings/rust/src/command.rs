@@ -33,7 +33,7 @@ impl<'a> TpmCommand<'a> {
     /// # Errors
     ///
     /// The first of: bytes that are not as many as the size field says, a tag that is no command's, a command code
-    /// that is none, handles or an authorization area that are cut short.
+    /// that is not in the table, handles or an authorization area that are cut short.
     ///
     /// ```
     /// use skeinloft::{Area, Refusal, Rules, TpmCommand};
@@ -295,8 +295,8 @@ impl CommandParts<'_> {
     /// # Errors
     ///
     /// The first of: a tag that is no command's or does not go with the sessions, more than three sessions, a command
-    /// code that is none, handles that are not the command's in number, by the standard rules a nonce or an HMAC of more than
-    /// [`MAX_DIGEST_SIZE`](crate::MAX_DIGEST_SIZE) bytes, more bytes than a frame's size can say, which is
+    /// code that is not in the table, handles that are not the command's in number, by the standard rules a nonce or an HMAC
+    /// of more than [`MAX_DIGEST_SIZE`](crate::MAX_DIGEST_SIZE) bytes, more bytes than a frame's size can say, which is
     /// [`WriteRefusal::IntegerTooLarge`], room that is too short. The room is then as it was.
     ///
     /// ```

@@ -2,15 +2,17 @@
 
 use crate::calls;
 use crate::refusal::Refusal;
+use crate::revision::Revision;
 use crate::view::ask;
 use core::fmt;
 
 /// Remembers for each open session the last nonce that the TPM sent for it, over which the next command is signed.
 ///
-/// Frames are read by [`Rules::STANDARD`](crate::Rules::STANDARD). A refused call leaves the keeper as it was.
+/// Frames are read by [`Rules::STANDARD`](crate::Rules::STANDARD), at the table that is named with them. A refused call leaves
+/// the keeper as it was.
 ///
 /// ```
-/// use skeinloft::Keeper;
+/// use skeinloft::{Keeper, Revision};
 ///
 /// let mut keeper = Keeper::new();
 /// keeper.open(0x0200_0000, b"the first")?;
@@ -22,7 +24,7 @@ use core::fmt;
 /// let answer = [
 ///     0x80, 0x02, 0, 0, 0, 25, 0, 0, 0, 0, 0, 0, 0, 4, 0, 2, 0xAA, 0xBB, 0, 2, 0x11, 0x22, 1, 0, 0,
 /// ];
-/// keeper.answer(&command, &answer)?;
+/// keeper.answer(Revision::Lib159, &command, &answer)?;
 /// assert_eq!(keeper.nonce(0x0200_0000)?, [0x11, 0x22]);
 ///
 /// keeper.close(0x0200_0000)?;
@@ -80,9 +82,9 @@ impl Keeper {
         ask(|out| calls::keeper_open(handle, nonce, &mut self.0, out)).map(|_| ())
     }
 
-    /// Takes an answer of the TPM with the command that it answers. Where that is success, each open session that the
-    /// command names gets the nonce at the same position of the answer. Other handles are passed by. An error of the TPM
-    /// moves nothing, and is no refusal.
+    /// Takes an answer of the TPM with the command that it answers, by the table of its revision. Where that is success, each
+    /// open session that the command names gets the nonce at the same position of the answer. Other handles are passed by. An
+    /// error of the TPM moves nothing, and is no refusal.
     ///
     /// A session that the command does not continue stays open here until it is [closed](Self::close).
     ///
@@ -93,8 +95,9 @@ impl Keeper {
     /// [`Refusal::CountsDiffer`].
     ///
     /// ```
-    /// use skeinloft::{Keeper, Refusal};
+    /// use skeinloft::{Keeper, Refusal, Revision};
     ///
+    /// let revision = Revision::Lib159;
     /// let command = [
     ///     0x80, 0x02, 0, 0, 0, 25, 0, 0, 0x01, 0x7B, 0, 0, 0, 9, 0x02, 0, 0, 0, 0, 0, 1, 0, 0, 0, 8,
     /// ];
@@ -102,15 +105,15 @@ impl Keeper {
     /// keeper.open(0x0200_0000, &[7; 16])?;
     ///
     /// // TPM_RC_AUTH_FAIL, of session 1
-    /// keeper.answer(&command, &[0x80, 0x01, 0, 0, 0, 10, 0, 0, 0x09, 0x8E])?;
+    /// keeper.answer(revision, &command, &[0x80, 0x01, 0, 0, 0, 10, 0, 0, 0x09, 0x8E])?;
     /// // success, without a session
-    /// let refusal = keeper.answer(&command, &[0x80, 0x01, 0, 0, 0, 12, 0, 0, 0, 0, 0, 0]).unwrap_err();
+    /// let refusal = keeper.answer(revision, &command, &[0x80, 0x01, 0, 0, 0, 12, 0, 0, 0, 0, 0, 0]).unwrap_err();
     /// assert_eq!(refusal, Refusal::CountsDiffer);
     /// assert_eq!(keeper.nonce(0x0200_0000)?, [7; 16]);
     /// # Ok::<(), Refusal>(())
     /// ```
-    pub fn answer(&mut self, command: &[u8], response: &[u8]) -> Result<(), Refusal> {
-        ask(|out| calls::keeper_answer(command, response, &mut self.0, out)).map(|_| ())
+    pub fn answer(&mut self, revision: Revision, command: &[u8], response: &[u8]) -> Result<(), Refusal> {
+        ask(|out| calls::keeper_answer(revision.number(), command, response, &mut self.0, out)).map(|_| ())
     }
 
     /// Closes a session, where it was flushed, or where a command that succeeded did not continue it.

@@ -13,7 +13,8 @@
 //! # Reading
 //!
 //! Every call that judges a frame takes [`Rules`] first, and a view keeps them: [`Rules::STANDARD`], or [`Rules::RUST`] to
-//! answer as software that runs tpm2-protocol does.
+//! answer as software that runs tpm2-protocol does. They go by tpm2-protocol's table of commands;
+//! `Rules::STANDARD.at(Revision::Lib159)` goes by that of the Library's revision 1.59, see [`Revision`].
 //!
 //! ```
 //! use skeinloft::{Refusal, Rules, TpmCc, TpmCommand, TpmResponse};
@@ -80,6 +81,7 @@ mod names;
 mod rc;
 mod refusal;
 mod response;
+mod revision;
 mod rh;
 mod rules;
 mod session;
@@ -95,6 +97,7 @@ pub use keeper::Keeper;
 pub use rc::{TpmRc, TpmRcIndex};
 pub use refusal::{Refusal, WriteRefusal};
 pub use response::{ResponseParts, TpmResponse};
+pub use revision::Revision;
 pub use rh::TpmRh;
 pub use rules::{MAX_DIGEST_SIZE, Reading, ResponseMode, Rules};
 pub use session::{Sessions, TpmaSession, TpmsAuth};

@@ -198,7 +198,7 @@ refusals! {
         value: u64,
     } "a tag that may not stand at byte {offset}: 0x{value:04X}"
 
-    /// A command code that is none.
+    /// A command code that is not in the table.
     4 InvalidCc {
         /// The place of the code.
         offset: usize,

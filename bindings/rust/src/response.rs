@@ -4,6 +4,7 @@ use crate::calls;
 use crate::cc::TpmCc;
 use crate::rc::TpmRc;
 use crate::refusal::{Refusal, WriteRefusal};
+use crate::revision::Revision;
 use crate::rules::{ResponseMode, Rules};
 use crate::session::Sessions;
 use crate::st::TpmSt;
@@ -140,7 +141,7 @@ impl<'a> TpmResponse<'a> {
     ///
     /// # Errors
     ///
-    /// The first of: a command code that is none; of an error, the sessions tag or bytes behind the header; of success,
+    /// The first of: a command code that is not in the table; of an error, the sessions tag or bytes behind the header; of success,
     /// handles or parameters that are cut short, a fourth entry, an entry that is cut short, or by the standard rules a nonce
     /// or an HMAC of more than [`MAX_DIGEST_SIZE`](crate::MAX_DIGEST_SIZE) bytes, [`Refusal::TooManyBytes`] at the place of
     /// its size.
@@ -182,6 +183,7 @@ impl<'a> TpmResponse<'a> {
         let frame = ask_parts(|out| calls::response_parts(self.rules.number(), cc.0, self.bytes, out))?;
         Ok(ResponseParts {
             mode: ResponseMode::again(self.rules, TpmSt(frame.tag)),
+            revision: self.rules.revision,
             rc: TpmRc::try_from(frame.code)?,
             handles: part(self.bytes, frame.handles),
             sessions: Sessions { record: frame.sessions, lent: self.bytes },
@@ -217,10 +219,11 @@ impl AsRef<[u8]> for TpmResponse<'_> {
 /// The parts of a response: those that were read, or those to be written.
 ///
 /// ```
-/// use skeinloft::{ResponseMode, ResponseParts, Rules, Sessions, TpmCc, TpmRc, TpmResponse};
+/// use skeinloft::{ResponseMode, ResponseParts, Revision, Rules, Sessions, TpmCc, TpmRc, TpmResponse};
 ///
 /// let random = ResponseParts {
 ///     mode: ResponseMode::Standard,
+///     revision: Revision::Crate,
 ///     rc: TpmRc::SUCCESS,
 ///     handles: &[],
 ///     sessions: Sessions::default(),
@@ -235,6 +238,8 @@ impl AsRef<[u8]> for TpmResponse<'_> {
 pub struct ResponseParts<'a> {
     /// How they are written. Those that were read have the mode that writes them again, under the tag they were read under.
     pub mode: ResponseMode,
+    /// By which table they are written. Those that were read have the table they were read by.
+    pub revision: Revision,
     /// The response code.
     pub rc: TpmRc,
     /// The handles, four bytes each.
@@ -251,11 +256,11 @@ impl ResponseParts<'_> {
     ///
     /// # Errors
     ///
-    /// The first of: more than three sessions, a command code that is none, a response code that does not read, sessions with
-    /// a code that is not success, a code that does not go with the mode's tag, handles that are not the response's in
-    /// number, in the standard mode a nonce or an HMAC of more than [`MAX_DIGEST_SIZE`](crate::MAX_DIGEST_SIZE) bytes, more
-    /// bytes than a frame's size can say, which is [`WriteRefusal::IntegerTooLarge`], room that is too short. The room is then
-    /// as it was.
+    /// The first of: more than three sessions, a command code that is not in the table, a response code that does not read,
+    /// sessions with a code that is not success, a code that does not go with the mode's tag, handles that are not the
+    /// response's in number, in the standard mode a nonce or an HMAC of more than
+    /// [`MAX_DIGEST_SIZE`](crate::MAX_DIGEST_SIZE) bytes, more bytes than a frame's size can say, which is
+    /// [`WriteRefusal::IntegerTooLarge`], room that is too short. The room is then as it was.
     ///
     /// ```
     /// use skeinloft::{Area, Refusal, ResponseMode, Rules, TpmCc, TpmResponse};
@@ -273,13 +278,13 @@ impl ResponseParts<'_> {
     /// ```
     ///
     /// ```
-    /// use skeinloft::{Area, Refusal, ResponseMode, ResponseParts, Sessions, TpmCc, TpmRc, TpmsAuth};
+    /// use skeinloft::{Area, Refusal, ResponseMode, ResponseParts, Revision, Sessions, TpmCc, TpmRc, TpmsAuth};
     ///
     /// let mut scratch = [0; 65];
     /// let entry = TpmsAuth { hmac: &[8; 65], ..TpmsAuth::default() };
     /// let sessions = Sessions::new(&[entry], &mut scratch)?;
-    /// let cleared =
-    ///     |mode| ResponseParts { mode, rc: TpmRc::SUCCESS, handles: &[], sessions, parameters: &[] };
+    /// let (revision, rc) = (Revision::Lib138, TpmRc::SUCCESS);
+    /// let cleared = |mode| ResponseParts { mode, revision, rc, handles: &[], sessions, parameters: &[] };
     /// let mut room = [0; 84];
     /// assert_eq!(cleared(ResponseMode::Rust).marshal(TpmCc::Clear, &mut room)?, 84);
     /// let refusal = cleared(ResponseMode::Standard).marshal(TpmCc::Clear, &mut room).unwrap_err();
@@ -289,6 +294,7 @@ impl ResponseParts<'_> {
     #[doc(alias = "tpm_marshal_response")]
     pub fn marshal(&self, cc: TpmCc, room: &mut [u8]) -> Result<usize, WriteRefusal> {
         let handed = self.sessions.handed(self.handles, self.parameters);
-        ask_writer(|out| calls::response_write(self.mode.number(), self.rc.value(), cc.0, handed, room, out))
+        let rules = self.mode.number_at(self.revision);
+        ask_writer(|out| calls::response_write(rules, self.rc.value(), cc.0, handed, room, out))
     }
 }

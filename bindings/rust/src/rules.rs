@@ -1,6 +1,7 @@
 //! The rules by which frames are judged and written.
 
 use crate::calls;
+use crate::revision::Revision;
 use crate::st::TpmSt;
 
 /// The most bytes that a nonce or an HMAC has by the standard rules: those of the longest digest (Part 2, `TPMU_HA`).
@@ -26,50 +27,67 @@ pub const MAX_DIGEST_SIZE: usize = 64;
 
 /// The rules by which a frame is judged: every call that judges one takes them first.
 ///
-/// Name [`Rules::STANDARD`], or [`Rules::RUST`] to answer as software that runs tpm2-protocol does.
+/// Name [`Rules::STANDARD`], or [`Rules::RUST`] to answer as software that runs tpm2-protocol does; and [`at`](Rules::at) a
+/// table of commands other than the crate's.
 ///
 /// ```
-/// use skeinloft::{Area, Reading, Refusal, Rules, TpmResponse};
+/// use skeinloft::{Area, Refusal, Revision, Rules, TpmResponse};
 ///
 /// // what a TPM answers to a command whose tag it does not understand
 /// let answer = [0x00, 0xC4, 0, 0, 0, 10, 0, 0, 0, 0x1E];
 /// assert!(TpmResponse::cast(Rules::STANDARD, &answer).is_ok());
 ///
-/// let refusal = TpmResponse::cast(Rules { reading: Reading::Rust }, &answer).unwrap_err();
+/// let refusal = TpmResponse::cast(Rules::RUST.at(Revision::Lib159), &answer).unwrap_err();
 /// assert_eq!(refusal, Refusal::InvalidTag { area: Area::Header, offset: 0, value: 0x00C4 });
 /// ```
 #[derive(Clone, Copy, Debug, Default, PartialEq, Eq, Hash)]
 pub struct Rules {
     /// How a frame is read.
     pub reading: Reading,
+    /// Which commands there are.
+    pub revision: Revision,
 }
 
 impl Rules {
-    /// The rules of the standard reading, which are the default.
+    /// The rules of the standard reading at the crate's table, which are the default.
     ///
     /// ```
-    /// use skeinloft::{Reading, Rules};
+    /// use skeinloft::{Reading, Revision, Rules};
     ///
-    /// assert_eq!(Rules::STANDARD, Rules { reading: Reading::Standard });
+    /// assert_eq!(Rules::STANDARD, Rules { reading: Reading::Standard, revision: Revision::Crate });
     /// assert_eq!(Rules::STANDARD, Rules::default());
     /// ```
-    pub const STANDARD: Self = Self { reading: Reading::Standard };
+    pub const STANDARD: Self = Self { reading: Reading::Standard, revision: Revision::Crate };
 
-    /// The rules of the Rust's reading.
+    /// The rules of the Rust's reading at the crate's table.
     ///
     /// ```
-    /// use skeinloft::{Reading, Rules};
+    /// use skeinloft::{Reading, Revision, Rules};
     ///
-    /// assert_eq!(Rules::RUST, Rules { reading: Reading::Rust });
+    /// assert_eq!(Rules::RUST, Rules { reading: Reading::Rust, revision: Revision::Crate });
     /// ```
-    pub const RUST: Self = Self { reading: Reading::Rust };
+    pub const RUST: Self = Self { reading: Reading::Rust, ..Self::STANDARD };
+
+    /// The same reading at another table.
+    ///
+    /// ```
+    /// use skeinloft::{Reading, Revision, Rules};
+    ///
+    /// const RULES: Rules = Rules::STANDARD.at(Revision::Lib159);
+    /// assert_eq!(RULES, Rules { reading: Reading::Standard, revision: Revision::Lib159 });
+    /// ```
+    #[must_use]
+    pub const fn at(self, revision: Revision) -> Self {
+        Self { revision, ..self }
+    }
 
     /// As the calls take them.
     pub(crate) const fn number(self) -> u32 {
-        match self.reading {
+        let reading = match self.reading {
             Reading::Rust => calls::RUST,
             Reading::Standard => calls::STANDARD,
-        }
+        };
+        reading + self.revision.number()
     }
 }
 
@@ -81,7 +99,7 @@ impl Rules {
 ///
 /// let bytes = [0x80, 0x01, 0, 0, 0, 10, 0, 0, 0x01, 0x7C];
 /// for reading in [Reading::Rust, Reading::Standard] {
-///     assert!(TpmCommand::cast(Rules { reading }, &bytes).is_ok());
+///     assert!(TpmCommand::cast(Rules { reading, ..Rules::default() }, &bytes).is_ok());
 /// }
 /// ```
 #[derive(Clone, Copy, Debug, Default, PartialEq, Eq, Hash)]
@@ -97,10 +115,11 @@ pub enum Reading {
 /// How a response is written. That the Rust's mode writes the answer to a bad tag cannot be asked for.
 ///
 /// ```
-/// use skeinloft::{ResponseMode, ResponseParts, Sessions, TpmCc, TpmRc, TpmRcBase};
+/// use skeinloft::{ResponseMode, ResponseParts, Revision, Sessions, TpmCc, TpmRc, TpmRcBase};
 ///
 /// let bad_tag = ResponseParts {
 ///     mode: ResponseMode::BadTag,
+///     revision: Revision::Lib159,
 ///     rc: TpmRc::Fmt0(TpmRcBase::BadTag),
 ///     handles: &[],
 ///     sessions: Sessions::default(),
@@ -131,12 +150,13 @@ impl ResponseMode {
         }
     }
 
-    /// As the calls take it.
-    pub(crate) const fn number(self) -> u32 {
-        match self {
+    /// As the calls take it, with a table.
+    pub(crate) const fn number_at(self, revision: Revision) -> u32 {
+        let mode = match self {
             Self::Rust => calls::RUST,
             Self::Standard => calls::STANDARD,
             Self::BadTag => calls::STANDARD_BAD_TAG,
-        }
+        };
+        mode + revision.number()
     }
 }

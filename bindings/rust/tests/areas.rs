@@ -5,8 +5,8 @@
 mod calls;
 
 use skeinloft::{
-    Area, CommandParts, Keeper, Refusal, ResponseMode, ResponseParts, Rules, Sessions, Tpm2b, TpmCc, TpmCommand, TpmRc,
-    TpmRcBase, TpmResponse, TpmSt, TpmsAuth, WriteRefusal,
+    Area, CommandParts, Keeper, Refusal, ResponseMode, ResponseParts, Revision, Rules, Sessions, Tpm2b, TpmCc,
+    TpmCommand, TpmRc, TpmRcBase, TpmResponse, TpmSt, TpmsAuth, WriteRefusal,
 };
 use std::collections::BTreeSet;
 
@@ -186,8 +186,8 @@ fn writers_have_no_area() {
     };
     let (plain, with, unseal, standard) = (TpmSt::NoSessions, TpmSt::Sessions, TpmCc::Unseal, Rules::STANDARD);
     let response = |rc| {
-        let (mode, sessions) = (ResponseMode::Standard, Sessions::default());
-        ResponseParts { mode, rc, handles: &[], sessions, parameters: &[] }.marshal(unseal, &mut [])
+        let (mode, revision, sessions) = (ResponseMode::Standard, Revision::Crate, Sessions::default());
+        ResponseParts { mode, revision, rc, handles: &[], sessions, parameters: &[] }.marshal(unseal, &mut [])
     };
     let refused = [
         (1, by(0, plain, unseal, &HANDLE[1..], 0, standard)),
@@ -250,7 +250,7 @@ fn the_keeper_hands_on_the_area_of_a_frame() {
         (&frame(SESSIONS, LOAD, &[&HANDLE, &sized(&PASSWORD.repeat(2))]), &good, 13, Area::None),
         (&load, &answer(&[&HANDLE, &sized(&[])]), 14, Area::None),
     ] {
-        let refusal = keeper.answer(command, answer).unwrap_err();
+        let refusal = keeper.answer(Revision::Crate, command, answer).unwrap_err();
         assert_eq!((refusal.number(), refusal.area()), (number, area), "{command:x?} {answer:x?}");
     }
 }
@@ -271,7 +271,7 @@ type Call = fn(&mut calls::Out) -> u32;
 /// The calls that this crate does not make, or never sees refused.
 #[test]
 fn every_refusal_puts_its_area_at_its_place() {
-    let refused: [(u32, Area, Call); 21] = [
+    let refused: [(u32, Area, Call); 22] = [
         // one field of the header
         (1, Area::Header, |out| calls::frame_tag(&[], out)),
         (3, Area::Header, |out| calls::frame_tag(&[0; 10], out)),
@@ -293,7 +293,7 @@ fn every_refusal_puts_its_area_at_its_place() {
         // no frame
         (1, Area::None, |out| calls::read_u16(1, &[0; 2], out)),
         (9, Area::None, |out| calls::write_u32(0, 7, &mut [0; 3], out)),
-        (4, Area::None, |out| calls::table_find(0, out)),
+        (4, Area::None, |out| calls::table_find(calls::REVISION_CRATE, 0, out)),
         (5, Area::None, |out| calls::rc_read(0xC4, out)),
         (9, Area::None, |out| <[u8; 64] as calls::Data>::from_slice(&[0; 65], &mut [0; 64], out)),
         (17, Area::None, |out| calls::keeper_ask(1, &calls::Keeper::EMPTY, out)),
@@ -301,6 +301,7 @@ fn every_refusal_puts_its_area_at_its_place() {
         (100, Area::None, |out| calls::rc_value(6, 0, 0, out)),
         (101, Area::None, |out| calls::command_validate(2, &[], out)),
         (101, Area::None, |out| calls::response_validate(2, 0, &[], out)),
+        (101, Area::None, |out| calls::table_known(calls::STANDARD, 0, out)),
     ];
     for (place, (number, area, call)) in refused.into_iter().enumerate() {
         let mut out = [u64::MAX; 8];

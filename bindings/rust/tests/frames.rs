@@ -1,8 +1,8 @@
 //! Real frames, a command and its answer a line: what passes is written again from its parts.
 
 use skeinloft::{
-    Area, CommandParts, Refusal, ResponseMode, ResponseParts, Rules, Sessions, TpmCc, TpmCommand, TpmRc, TpmResponse,
-    TpmSt, TpmsAuth, WriteRefusal,
+    Area, CommandParts, Refusal, ResponseMode, ResponseParts, Revision, Rules, Sessions, TpmCc, TpmCommand, TpmRc,
+    TpmResponse, TpmSt, TpmsAuth, WriteRefusal,
 };
 
 const PAIRS: &str = include_str!("../../../compare/src/frame/real.txt");
@@ -143,11 +143,11 @@ fn a_total_of_more_than_32_bits_is_too_large() {
     let written = |total: usize| {
         let (tag, cc, rc, handles, sessions) =
             (TpmSt::NoSessions, TpmCc::Startup, TpmRc::SUCCESS, &[][..], Sessions::default());
-        let parameters = &zeros[..total - 10];
+        let (mode, revision, parameters) = (ResponseMode::Standard, Revision::Crate, &zeros[..total - 10]);
         let mut room = [0xFF; 12];
         let results = [
             CommandParts { tag, cc, handles, sessions, parameters }.marshal(Rules::STANDARD, &mut room),
-            ResponseParts { mode: ResponseMode::Standard, rc, handles, sessions, parameters }.marshal(cc, &mut room),
+            ResponseParts { mode, revision, rc, handles, sessions, parameters }.marshal(cc, &mut room),
         ];
         assert_eq!(room, [0xFF; 12]);
         results

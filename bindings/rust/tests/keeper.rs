@@ -4,10 +4,14 @@
 #[path = "../src/calls.rs"]
 mod calls;
 
-use skeinloft::{Area, Keeper, Refusal, Rules, TpmCc, TpmCommand, TpmRc, TpmResponse};
+use skeinloft::{Area, Keeper, Refusal, Revision, Rules, TpmCc, TpmCommand, TpmRc, TpmResponse};
 
 const HEADER: &str = include_str!("../../../include/skeinloft.h");
 const PAIRS: &str = include_str!("../../../compare/src/frame/real.txt");
+
+/// The table that the frames are read by, and its number. Every table has the codes that are written here.
+const BY: Revision = Revision::Lib138;
+const NUMBER: u32 = calls::REVISION_138;
 
 /// A session of each kind, and the handle of a password.
 const HMAC: u32 = 0x0200_0000;
@@ -62,26 +66,26 @@ fn has(keeper: &Keeper, hmac: &[u8], policy: &[u8]) {
 #[test]
 fn each_session_gets_the_nonce_at_its_position() {
     let mut keeper = both_open();
-    assert_eq!(keeper.answer(&random(&[POLICY, HMAC]), &answered(&[b"to policy", b"to HMAC"])), Ok(()));
+    assert_eq!(keeper.answer(BY, &random(&[POLICY, HMAC]), &answered(&[b"to policy", b"to HMAC"])), Ok(()));
     has(&keeper, b"to HMAC", b"to policy");
 
     // a password and a session that is not open stand before it, and are passed by
     let command = random(&[PASSWORD, 0x0200_0009, HMAC]);
-    assert_eq!(keeper.answer(&command, &answered(&[b"", b"of another", b"next"])), Ok(()));
+    assert_eq!(keeper.answer(BY, &command, &answered(&[b"", b"of another", b"next"])), Ok(()));
     has(&keeper, b"next", b"to policy");
     assert_eq!(keeper.nonce(0x0200_0009), Err(Refusal::NotOpen));
 
     // they may even stand there twice
-    assert_eq!(keeper.answer(&random(&[PASSWORD, PASSWORD, POLICY]), &answered(&[b"", b"", b""])), Ok(()));
+    assert_eq!(keeper.answer(BY, &random(&[PASSWORD, PASSWORD, POLICY]), &answered(&[b"", b"", b""])), Ok(()));
     has(&keeper, b"next", b"");
 }
 
 #[test]
 fn an_error_moves_nothing() {
     let mut keeper = both_open();
-    assert_eq!(keeper.answer(&random(&[HMAC]), &AUTH_FAIL), Ok(()));
+    assert_eq!(keeper.answer(BY, &random(&[HMAC]), &AUTH_FAIL), Ok(()));
     // and its sessions are not looked at
-    assert_eq!(keeper.answer(&random(&[HMAC, HMAC]), &AUTH_FAIL), Ok(()));
+    assert_eq!(keeper.answer(BY, &random(&[HMAC, HMAC]), &AUTH_FAIL), Ok(()));
     has(&keeper, b"first", b"second");
 }
 
@@ -92,14 +96,15 @@ fn recorded_answers_move_their_sessions() {
     for line in PAIRS.lines() {
         let (command, answer) = line.split_once(' ').expect("two frames");
         let (command, answer) = (unhex(command), unhex(answer));
-        let read = TpmCommand::cast(Rules::STANDARD, &command).and_then(|command| command.parts());
-        let given = read.and_then(|parts| TpmResponse::cast(Rules::STANDARD, &answer)?.parts(parts.cc));
+        let rules = Rules::STANDARD.at(BY);
+        let read = TpmCommand::cast(rules, &command).and_then(|command| command.parts());
+        let given = read.and_then(|parts| TpmResponse::cast(rules, &answer)?.parts(parts.cc));
         let handles: Vec<u32> =
             read.iter().flat_map(|parts| parts.sessions.iter().map(|entry| entry.session_handle)).collect();
         let sessions = || handles.iter().zip(0..).filter(|&(&handle, _)| handle != PASSWORD);
         let mut keeper = Keeper::new();
         sessions().for_each(|(&handle, _)| assert_eq!(keeper.open(handle, b"before"), Ok(())));
-        assert_eq!(keeper.answer(&command, &answer), given.map(|_| ()), "{line}");
+        assert_eq!(keeper.answer(BY, &command, &answer), given.map(|_| ()), "{line}");
         let success = given.ok().filter(|parts| parts.rc == TpmRc::SUCCESS);
         for (&handle, position) in sessions() {
             let due =
@@ -161,7 +166,7 @@ fn answers_are_refused_in_order() {
         (&random(&[PASSWORD]), &[0x80, 0x01, 0, 0, 0, 10, 0, 0, 0, 0], Refusal::CountsDiffer),
         (&random(&[PASSWORD, PASSWORD]), &one[..], Refusal::CountsDiffer),
     ] {
-        assert_eq!(keeper.answer(command, answer), Err(due));
+        assert_eq!(keeper.answer(BY, command, answer), Err(due));
         has(&keeper, b"first", b"second");
     }
 }
@@ -169,10 +174,10 @@ fn answers_are_refused_in_order() {
 #[test]
 fn a_long_nonce_is_refused_by_its_frame() {
     let mut keeper = both_open();
-    assert_eq!(keeper.answer(&random(&[HMAC]), &answered(&[&[7; 64]])), Ok(()));
+    assert_eq!(keeper.answer(BY, &random(&[HMAC]), &answered(&[&[7; 64]])), Ok(()));
     assert_eq!(keeper.nonce(HMAC), Ok(&[7; 64][..]));
     let refusal = Refusal::TooManyBytes { area: Area::Authorization, offset: 17, limit: 64, actual: 65 };
-    assert_eq!(keeper.answer(&random(&[HMAC]), &answered(&[&[8; 65]])), Err(refusal));
+    assert_eq!(keeper.answer(BY, &random(&[HMAC]), &answered(&[&[8; 65]])), Err(refusal));
     assert_eq!(keeper.nonce(HMAC), Ok(&[7; 64][..]));
 }
 
@@ -195,7 +200,7 @@ fn every_number_can_be_a_handle() {
         assert_eq!(keeper.open(handle, &handle.to_le_bytes()), Ok(()));
         assert_eq!(keeper.open(handle, &[]), Err(Refusal::AlreadyOpen));
     }
-    assert_eq!(keeper.answer(&random(&[u32::MAX, 0]), &answered(&[b"last", b"first"])), Ok(()));
+    assert_eq!(keeper.answer(BY, &random(&[u32::MAX, 0]), &answered(&[b"last", b"first"])), Ok(()));
     assert_eq!((keeper.nonce(0), keeper.nonce(u32::MAX)), (Ok(&b"first"[..]), Ok(&b"last"[..])));
 }
 
@@ -243,9 +248,9 @@ fn a_refusal_changes_no_byte() {
         (8, |keeper, out| calls::keeper_open(POLICY, &[1; 65], keeper, out)),
         (17, |keeper, out| calls::keeper_close(POLICY, keeper, out)),
         (17, |keeper, out| calls::keeper_ask(POLICY, keeper, out)),
-        (4, |keeper, out| calls::keeper_answer(&answered(&[b"1"]), &answered(&[b"1"]), keeper, out)),
-        (13, |keeper, out| calls::keeper_answer(&random(&[HMAC, HMAC]), &answered(&[b"1"]), keeper, out)),
-        (14, |keeper, out| calls::keeper_answer(&random(&[HMAC]), &answered(&[]), keeper, out)),
+        (4, |keeper, out| calls::keeper_answer(NUMBER, &answered(&[b"1"]), &answered(&[b"1"]), keeper, out)),
+        (13, |keeper, out| calls::keeper_answer(NUMBER, &random(&[HMAC, HMAC]), &answered(&[b"1"]), keeper, out)),
+        (14, |keeper, out| calls::keeper_answer(NUMBER, &random(&[HMAC]), &answered(&[]), keeper, out)),
     ];
     // behind the bytes of the nonce, and at the other places, may stand anything
     let mut keeper = calls::Keeper { opaque: [u64::MAX; 553] };
@@ -276,7 +281,7 @@ fn every_state_is_taken() {
             let [from, to] = [out[0], out[1]].map(|place| usize::try_from(place).expect("a place"));
             assert!(from <= to && to <= from + 64 && to <= keeper.bytes().len());
         }
-        calls::keeper_answer(&random(&[handle, 0]), &answered(&[&[7; 64], &[]]), &mut keeper, &mut out);
+        calls::keeper_answer(NUMBER, &random(&[handle, 0]), &answered(&[&[7; 64], &[]]), &mut keeper, &mut out);
         calls::keeper_open(handle, &[7; 64], &mut keeper, &mut out);
         calls::keeper_close(handle, &mut keeper, &mut out);
         assert_eq!(calls::keeper_len(&keeper, &mut out), 0);

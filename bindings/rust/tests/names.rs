@@ -1,6 +1,10 @@
 //! The names and numbers of the tables, beside other tables of them.
 
-use skeinloft::{Refusal, Rules, TpmCc, TpmCommand, TpmRc, TpmRcBase};
+#[allow(dead_code)]
+#[path = "../src/calls.rs"]
+mod calls;
+
+use skeinloft::{Refusal, Revision, Rules, TpmCc, TpmCommand, TpmRc, TpmRcBase};
 use std::collections::BTreeMap;
 use std::path::PathBuf;
 
@@ -27,27 +31,36 @@ fn commands() -> BTreeMap<u32, &'static str> {
     TpmCc::NAMED.iter().map(|&(cc, name)| (cc.value(), bare(name))).collect()
 }
 
+/// The tables, by their numbers, and the tables of facts that they are held to.
+const TABLES: [(Revision, u32, &str); 3] = [
+    (Revision::Crate, calls::REVISION_CRATE, "crate.csv"),
+    (Revision::Lib138, calls::REVISION_138, "lib138.csv"),
+    (Revision::Lib159, calls::REVISION_159, "lib159.csv"),
+];
+
 #[test]
-fn commands_are_those_of_the_dispatch_table() {
-    let Some(rows) = rows("crate.csv") else { return };
-    assert!(rows.iter().map(|row| number(&row[0])).eq(commands().into_keys()));
+fn commands_are_those_of_the_tables() {
+    for (revision, number_of_table, table) in TABLES {
+        let Some(rows) = rows(table) else { return };
+        let ours = commands().into_keys().filter(|&code| revision.has(TpmCc(code)));
+        assert!(rows.iter().map(|row| number(&row[0])).eq(ours), "{table}");
+        for row in rows {
+            let mut out = [0; 8];
+            assert_eq!(calls::table_find(number_of_table, number(&row[0]), &mut out), 0, "{table} {row:?}");
+            assert_eq!([out[0], out[1]].map(|count| count.to_string()), row[2..4], "{table} {row:?}");
+        }
+    }
 }
 
 #[test]
 fn commands_are_named_as_in_the_library() {
-    for (table, at_least) in [("lib138.csv", 113), ("lib159.csv", 117)] {
+    let ours = commands();
+    for (table, due) in [("lib138.csv", 113), ("lib159.csv", 118)] {
         let Some(rows) = rows(table) else { return };
-        let ours = commands();
-        let mut same = 0;
-        for row in &rows {
-            match ours.get(&number(&row[0])) {
-                Some(name) => assert_eq!(name, &row[1]),
-                // of 1.59, and not of the crate's table
-                None => assert_eq!(row[1], "CertifyX509"),
-            }
-            same += 1;
+        assert_eq!(rows.len(), due, "{table}");
+        for row in rows {
+            assert_eq!(ours.get(&number(&row[0])), Some(&row[1].as_str()), "{table}");
         }
-        assert!(same >= at_least, "{table} has {same} rows");
     }
 }
 
@@ -67,8 +80,9 @@ fn every_command_that_is_one_has_a_name() {
     for code in (0..0x1000).chain(0x2000_0000..0x2000_0100) {
         let header = [&[0x80, 0x01, 0, 0, 0, 10][..], &u32::to_be_bytes(code)].concat();
         // its handles may be missing
-        let known = !matches!(TpmCommand::cast(Rules::RUST, &header), Err(Refusal::InvalidCc { .. }));
-        assert_eq!(known, TpmCc(code).name().is_some(), "0x{code:X}");
+        let known =
+            |revision| !matches!(TpmCommand::cast(Rules::RUST.at(revision), &header), Err(Refusal::InvalidCc { .. }));
+        assert_eq!(Revision::ALL.into_iter().any(known), TpmCc(code).name().is_some(), "0x{code:X}");
     }
 }
 
@@ -88,7 +102,7 @@ fn every_code_that_reads_has_a_name() {
 /// The same names beside those of tpm2-protocol, where that is linked.
 #[cfg(oracle)]
 mod beside_the_crate {
-    use skeinloft::{TpmCc, TpmRcBase, TpmRh, TpmSt, TpmaSession};
+    use skeinloft::{Revision, TpmCc, TpmRcBase, TpmRh, TpmSt, TpmaSession};
     use std::collections::BTreeMap;
     use tpm2_protocol::data;
 
@@ -117,7 +131,8 @@ mod beside_the_crate {
             let in_our_way = |name: String| {
                 spelt.get(name.as_str()).map_or_else(|| name.replacen("TPM_CC_", "TPM2_", 1), ToString::to_string)
             };
-            assert_eq!(TpmCc(code).name().map(str::to_owned), theirs.map(in_our_way), "0x{code:X}");
+            let ours = TpmCc(code).name().filter(|_| Revision::Crate.has(TpmCc(code)));
+            assert_eq!(ours.map(str::to_owned), theirs.map(in_our_way), "0x{code:X}");
         }
     }
 

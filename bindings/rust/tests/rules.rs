@@ -2,8 +2,8 @@
 //! nothing else.
 
 use skeinloft::{
-    Area, CommandParts, MAX_DIGEST_SIZE, Refusal, ResponseMode, ResponseParts, Rules, Sessions, TpmCc, TpmCommand,
-    TpmRc, TpmRcBase, TpmResponse, TpmSt, TpmsAuth, WriteRefusal,
+    Area, CommandParts, MAX_DIGEST_SIZE, Refusal, ResponseMode, ResponseParts, Revision, Rules, Sessions, TpmCc,
+    TpmCommand, TpmRc, TpmRcBase, TpmResponse, TpmSt, TpmsAuth, WriteRefusal,
 };
 
 /// What a TPM answers to a command whose tag it does not understand.
@@ -25,15 +25,21 @@ fn no_such_tag(area: Area, tag: u16) -> Refusal {
 
 #[test]
 fn it_answers_every_command_in_the_standard_reading_alone() {
-    for &(cc, name) in TpmCc::NAMED {
-        let response = TpmResponse::cast(Rules::STANDARD, &BAD_TAG).expect(name);
+    for (revision, &(cc, name)) in
+        Revision::ALL.into_iter().flat_map(|all| TpmCc::NAMED.iter().map(move |it| (all, it)))
+    {
+        let [rust, standard] = [Rules::RUST, Rules::STANDARD].map(|rules| rules.at(revision));
+        assert_eq!(validated(rust, cc, &BAD_TAG), Err(no_such_tag(Area::Header, 0x00C4)), "{name}");
+        let response = TpmResponse::cast(standard, &BAD_TAG).expect(name);
+        if !revision.has(cc) {
+            let no_row = Refusal::InvalidCc { area: Area::Header, offset: 0, value: cc.value().into() };
+            assert_eq!(response.validate(cc), Err(no_row), "{name}");
+            continue;
+        }
         assert_eq!((response.tag(), response.validate(cc)), (Ok(TpmSt::RspCommand), Ok(())), "{name}");
         let areas = response.areas(cc).expect(name);
         assert_eq!([areas.handles, areas.auth_area, areas.parameters], [10..10, 10..10, 10..10], "{name}");
-        assert_eq!(validated(Rules::RUST, cc, &BAD_TAG), Err(no_such_tag(Area::Header, 0x00C4)), "{name}");
     }
-    let no_row = Refusal::InvalidCc { area: Area::Header, offset: 0, value: 0x197 };
-    assert_eq!(validated(Rules::STANDARD, TpmCc(0x197), &BAD_TAG), Err(no_row));
 }
 
 #[test]
@@ -119,7 +125,8 @@ fn the_writer_refuses_in_order() {
         (0, TpmCc::Startup, bad, 9, Refusal::BufferOverflow { area: Area::None, offset: 0, needed: 10, available: 9 }),
     ] {
         let sessions = Sessions::new(&[TpmsAuth::default(); 4][..count], &mut []).expect("they are empty");
-        let parts = ResponseParts { mode: ResponseMode::BadTag, rc: code, handles: &[], sessions, parameters: &[] };
+        let (mode, revision) = (ResponseMode::BadTag, Revision::Crate);
+        let parts = ResponseParts { mode, revision, rc: code, handles: &[], sessions, parameters: &[] };
         let mut written = [0xFF; 10];
         assert_eq!(parts.marshal(cc, &mut written[..room]), Err(due.into()));
         assert_eq!(written, [0xFF; 10]);
@@ -232,11 +239,12 @@ fn written(sizes: &[[u16; 2]], handles: &[u8], room: &mut [u8]) -> [[Result<usiz
         .collect();
     let sessions = Sessions::new(&entries, &mut scratch).expect("there is room");
     let (tag, cc, rc, parameters) = (TpmSt::Sessions, TpmCc::GetRandom, TpmRc::SUCCESS, &[][..]);
+    let revision = Revision::Crate;
     let command = CommandParts { tag, cc, handles, sessions, parameters };
     [
         [Rules::RUST, Rules::STANDARD].map(|rules| command.marshal(rules, room)),
         [ResponseMode::Rust, ResponseMode::Standard]
-            .map(|mode| ResponseParts { mode, rc, handles, sessions, parameters }.marshal(cc, room)),
+            .map(|mode| ResponseParts { mode, revision, rc, handles, sessions, parameters }.marshal(cc, room)),
     ]
 }
 
