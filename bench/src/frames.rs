@@ -4,7 +4,7 @@
 //! What the Rust needs to have at hand before it can be asked is made outside of the loop: the view for `validate` and
 //! for the areas, the command as a member of `TpmCc`, and the number of a response's handles.
 
-use crate::calls::{self, Frame, Out, Parts, RUST, STANDARD};
+use crate::calls::{self, Frame, Out, Parts, REVISION_159, RUST, STANDARD};
 use crate::frame::{known, make, oracle, real};
 use crate::oracle::tell;
 use crate::random::Random;
@@ -103,11 +103,22 @@ pub fn each<T>(items: &[T], n: u64, call: fn(&T, &mut Out) -> u32) {
 }
 
 pub fn command_cast(side: Side, n: u64) {
+    command_cast_by(side, n, |pair, out| calls::command_cast(RUST, &pair.command, out));
+}
+
+/// The same at the table of revision 1.59, on frames whose codes both tables have.
+pub fn command_cast_159(side: Side, n: u64) {
+    let passes = |pair: &Pair| calls::command_cast(REVISION_159 + RUST, &pair.command, &mut [0; 8]) == 0;
+    assert!(real().iter().all(passes), "a command is refused");
+    command_cast_by(side, n, |pair, out| calls::command_cast(REVISION_159 + RUST, &pair.command, out));
+}
+
+fn command_cast_by(side: Side, n: u64, ours: fn(&Pair, &mut Out) -> u32) {
     each(
         &real(),
         n,
         match side {
-            Side::Ours => |pair: &Pair, out| calls::command_cast(RUST, &pair.command, out),
+            Side::Ours => ours,
             Side::Other => |pair, out| oracle::command_cast(&pair.command, out),
             Side::Empty => |_, _| 0,
         },

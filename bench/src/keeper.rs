@@ -4,7 +4,7 @@
 //! A session is told by the order of opening, from 0 on; from 64 on it is unknown. That no call is refused, and that an
 //! answer moves the nonces that it should, is seen to before they are measured, on every side alike.
 
-use crate::calls::{self, Keeper, Out, STANDARD};
+use crate::calls::{self, Keeper, Out, REVISION_CRATE, STANDARD};
 use crate::frames::{Pair, made_of};
 use crate::rows::{Row, Side, repeat};
 use std::hint::black_box;
@@ -81,7 +81,7 @@ fn validated(pair: &Pair, _: &mut Keeper, out: &mut Out) -> u32 {
 }
 
 fn answered(pair: &Pair, keeper: &mut Keeper, out: &mut Out) -> u32 {
-    calls::keeper_answer(&pair.command, &pair.response, keeper, out)
+    calls::keeper_answer(REVISION_CRATE, &pair.command, &pair.response, keeper, out)
 }
 
 /// Each session that is named and known has to get the nonce at its position of the response.

@@ -1,11 +1,11 @@
-//! Measures calls of the proved library beside the same calls of the crate tpm2-protocol, and beside tpm2-tss; and the
-//! nonce keeper's beside validating the two frames of an answer.
+//! Measures calls of the proved library beside the same calls of the crate tpm2-protocol, and beside tpm2-tss; the nonce
+//! keeper's beside validating the two frames of an answer; and the search in a table of commands beside a binary search.
 //!
 //! usage: bench BESIDE --rows                  prints the rows' names, one a line
 //!        bench BESIDE --time ROW              prints nanoseconds a call: ours, the other side's
 //!        bench BESIDE --count ROW SIDE N      makes N calls of a side, to be counted from outside
 //!
-//! BESIDE is rust, tss or frames; SIDE is ours, other or empty.
+//! BESIDE is rust, tss, frames or halves; SIDE is ours, other or empty.
 
 // no row measures every call
 #[allow(dead_code)]
@@ -23,6 +23,7 @@ mod random;
 #[path = "../../compare/src/report.rs"]
 mod report;
 mod rows;
+mod search;
 mod time;
 mod tss;
 #[allow(dead_code)]
@@ -41,6 +42,7 @@ fn rows(beside: &str) -> Result<&'static [Row], String> {
         "rust" => Ok(rows::ROWS),
         "tss" => Ok(tss::ROWS),
         "frames" => Ok(keeper::ROWS),
+        "halves" => Ok(search::ROWS),
         _ => Err(format!("there is nothing beside '{beside}'")),
     }
 }

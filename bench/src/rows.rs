@@ -38,6 +38,7 @@ pub static ROWS: &[Row] = &[
     Row { name: "buffer marshal, 64 bytes", run: marshal::<64> },
     Row { name: "buffer marshal, 1,024 bytes", run: marshal::<1024> },
     Row { name: "command cast, real frames", run: frames::command_cast },
+    Row { name: "command cast, real frames, 1.59", run: frames::command_cast_159 },
     Row { name: "response cast, real frames", run: frames::response_cast },
     Row { name: "command validate, real frames", run: |side, n| frames::command_validate(side, n, frames::real()) },
     Row { name: "response validate, real frames", run: |side, n| frames::response_validate(side, n, frames::real()) },

@@ -135,27 +135,33 @@ impl Display for Count {
 
 /// Counts by the rules that the calls were given.
 #[derive(Clone, Copy, Default)]
-pub struct Counts([Count; By::ALL.len()]);
+pub struct Counts([Count; By::COUNT]);
 
 impl Counts {
     pub fn add(&mut self, tally: &Tally) {
-        self.0[tally.by as usize] += tally.count();
+        self.0[tally.by.place()] += tally.count();
     }
 
     pub fn all(&self) -> Count {
-        let mut all = Count::default();
-        self.0.iter().for_each(|&count| all += count);
-        all
+        self.of(|_| true)
     }
 
-    /// Prints a line for each of the rules by which calls were made, and one for all; where none but the Rust's were named,
-    /// the last alone. Then one for the areas of refusals, where there is a judge of them.
+    /// Those of some rules.
+    fn of(&self, which: impl Fn(By) -> bool) -> Count {
+        let mut sum = Count::default();
+        By::all().iter().zip(self.0).filter(|(by, _)| which(**by)).for_each(|(_, count)| sum += count);
+        sum
+    }
+
+    /// Prints a line for each group of rules by which calls were made, and one for all; where none but the Rust's at the
+    /// crate's table were named, the last alone. Then one for the areas of refusals, where there is a judge of them.
     pub fn tell(&self, whose: &str) {
-        let made: Vec<_> = By::ALL.iter().zip(&self.0).filter(|(_, count)| count.calls > 0).collect();
-        if made.len() > 1 {
-            made.iter().for_each(|(by, count)| println!("{whose}: {} {count}", by.phrase()));
-        }
         let all = self.all();
+        if self.of(|by| by != By::NO_RULES).calls > 0 {
+            let groups = By::GROUPS.map(|(phrase, which)| (phrase, self.of(which)));
+            let made = groups.iter().filter(|(_, count)| count.calls > 0);
+            made.for_each(|(phrase, count)| println!("{whose}: {phrase} {count}"));
+        }
         println!("{whose}: in all {all}");
         if !all.areas.is_empty() {
             println!("{whose}: refusals by their area, judged by {RULES}: {}", all.areas);
@@ -191,13 +197,13 @@ pub struct Tally {
 impl Tally {
     /// Of a call that takes no rules.
     pub fn new<C: Case>(name: impl Into<String>) -> Self {
-        Self::of::<C>(name, By::Rust)
+        Self::of::<C>(name, By::NO_RULES)
     }
 
     /// Of a call by these rules.
     pub fn of<C: Case>(name: impl Into<String>, by: By) -> Self {
         Self {
-            name: name.into() + by.word(),
+            name: name.into() + &by.words(),
             by,
             writes_frames: C::WRITES_FRAMES,
             calls: 0,
@@ -334,8 +340,7 @@ impl Tally {
     }
 
     fn ask_ours<C: Case>(&mut self, case: &C) {
-        case.preset(&mut self.ours);
-        case.ours(&mut self.ours);
+        answer_ours(case, &mut self.ours);
     }
 
     fn ask<C: Case>(&mut self, judge: &Judge<C>, case: &C) -> bool {
@@ -385,6 +390,18 @@ impl Tally {
             }
         }
     }
+}
+
+fn answer_ours<C: Case>(case: &C, answer: &mut Answer) {
+    case.preset(answer);
+    case.ours(answer);
+}
+
+/// Our answer to a case, held to nothing.
+pub fn ours<C: Case>(case: &C) -> Answer {
+    let mut answer = Answer::new();
+    answer_ours(case, &mut answer);
+    answer
 }
 
 impl Display for Tally {

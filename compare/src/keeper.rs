@@ -4,9 +4,9 @@
 //! stands in the lent struct is the library's affair. A call that is refused or only asks leaves every byte, and no call
 //! touches one beside the struct.
 //!
-//! The frames of an answer are judged by document 01's rules in the standard reading, written out, and where the crate is at
-//! hand by the crate too, as in the frame suite: it judges those calls as far as their frames go. States that no run gives
-//! are in `any`.
+//! The frames of an answer are judged by document 01's rules in the standard reading, written out, mostly at the crate's table,
+//! and there, where the crate is at hand, by the crate too, as in the frame suite: it judges those calls as far as their
+//! frames go. States that no run gives are in `any`.
 
 mod any;
 mod count;
@@ -23,6 +23,7 @@ pub use desk::Desk;
 pub use step::{ANSWER, CLOSE, OPEN, Step};
 
 use crate::answer::{Answer, Said};
+#[cfg(oracle)]
 use crate::frame::Call;
 use crate::judge::{Case, Judge, Tally};
 use crate::random::Random;
@@ -86,7 +87,7 @@ fn put(answer: &mut Answer, said: Said, told: &[u8]) {
 
 /// It speaks about every run.
 fn by_document(case: &Run, answer: &mut Answer) -> bool {
-    judged(case, answer, |step| Pair::of(step, Call::by_rules))
+    judged(case, answer, |step| Some(Pair::by_rules(step)))
 }
 
 /// The crate is asked about the frames of the last call, and about no call that takes none.

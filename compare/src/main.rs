@@ -8,11 +8,13 @@
 //!                                        what came of document 01, of the crate, of recorded traffic and of tpm2-tss
 //!        driver --list                   prints the fixed list of calls with the judges' answers, one a line, for a
 //!                                        replay on machines without Rust: `NAME BYTES PLACE N = NUMBER VALUES`, and
-//!                                        for a call that writes ` ; LATER-BYTES`
+//!                                        for a call that writes ` ; LATER-BYTES`; `standard` and `1.38` or `1.59`
+//!                                        behind the input name another reading and another table
 
 // without the crate, what only its comparison takes lies idle
 #![cfg_attr(not(oracle), allow(dead_code))]
 
+mod alike;
 mod answer;
 mod area;
 mod by;
@@ -58,7 +60,7 @@ static SUITES: [Suite; 9] = [
     Suite { name: "view", run: |random, _| view::run(random), list: view::list },
     Suite { name: "fixed", run: |random, _| fixed::run(random), list: |_| () },
     Suite { name: "frame", run: frame::run, list: frame::list },
-    Suite { name: "write", run: write::run, list: |_| () },
+    Suite { name: "write", run: write::run, list: write::list },
     Suite { name: "keeper", run: keeper::run, list: |_| () },
     Suite { name: TRAFFIC, run: |_, _| traffic::run(), list: |_| () },
     Suite { name: "tss", run: tss::run, list: |_| () },

@@ -2,18 +2,23 @@
 //! They are not part of the repository: SKEIN_TRAFFIC names the folder that has them, else it is ../shared/facts beside
 //! the repository. A response is judged for the code of the command that it answers. Each frame that passes is written
 //! again from its parts. The two readings have to judge alike, but for the answer to a bad tag and for a nonce or an HMAC
-//! that is too long. A nonce keeper follows the sessions of each recording.
+//! that is too long. All is done at each table of commands, and what the tables judge differently is told with its codes. A
+//! nonce keeper follows the sessions of each recording. The folder also has the rows of the tables, to which the library's
+//! are held.
 
+mod at_tables;
 mod nonces;
 mod published;
+mod rows;
 
 use crate::answer::Hex;
+use crate::by::TABLES;
 use crate::calls::{self, Out, RUST, STANDARD};
 use crate::frame::{Desk, Kind, make, named, real};
 use crate::judge::{RULES, TOO_LONG, Tally};
-use crate::keeper;
 use crate::shown::said;
 use crate::write::{self, Again};
+use at_tables::AtTables;
 use std::collections::BTreeMap;
 use std::fs;
 use std::path::{Path, PathBuf};
@@ -61,16 +66,18 @@ pub fn run() -> Vec<Tally> {
         return Vec::new();
     }
     let mut desks = Desks { read: Desk::new(), again: Again::new(), apart: BTreeMap::new() };
+    rows::check(&mut desks.read, &folder.join("tables"));
+    desks.read.tables = &TABLES;
     let recordings = recordings(&folder.join("traces"));
     traces(&mut desks, &recordings);
-    let mut keeper = keeper::Desk::new();
-    nonces::check(&mut keeper, &recordings);
+    let keepers: Vec<Tally> = TABLES.iter().flat_map(|&revision| nonces::check(revision, &recordings)).collect();
     published::check(&mut desks, &folder.join("published-frames.csv"));
     tell_apart(&desks.apart);
     desks.again.tell(super::TRAFFIC);
+    desks.read.tell_alike(super::TRAFFIC);
     let mut tallies = desks.read.done();
     tallies.extend(desks.again.desk.done());
-    tallies.extend(keeper.done());
+    tallies.extend(keepers);
     tallies
 }
 
@@ -79,15 +86,21 @@ type Pair = (Vec<u8>, Vec<u8>);
 
 fn traces(desks: &mut Desks, recordings: &[Vec<Pair>]) {
     let (mut commands, mut responses) = (Count::default(), Count::default());
+    let (mut commands_at, mut responses_at) = (AtTables::default(), AtTables::default());
     for (command, response) in recordings.iter().flatten() {
+        let code = real::code(command);
         commands.add(ask_command(desks, command));
-        responses.add(ask_response(desks, real::code(command), response));
+        responses.add(ask_response(desks, code, response));
+        commands_at.add(code, |by, out| calls::command_validate(by, command, out));
+        responses_at.add(code, |by, out| calls::response_validate(by, code, response, out));
         // as they follow each other on a bus
         desks.read.lay(&[command.as_slice(), response].concat());
         desks.read.ask(named("command_cast_prefix"), 0);
     }
     commands.tell("commands");
     responses.tell("responses");
+    commands_at.tell("commands");
+    responses_at.tell("responses");
 }
 
 /// The commands and responses of each trace, of which a line is a pair in hexadecimal.

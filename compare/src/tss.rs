@@ -1,6 +1,6 @@
-//! The tss suite: commands in the standard reading beside the marshalling library of tpm2-tss, which has the same limit on
-//! nonces and HMACs and shares nothing with the other judges. Recorded and published commands and those that are kept here,
-//! and damaged ones that are made of those with sessions.
+//! The tss suite: commands in the standard reading at the crate's table beside the marshalling library of tpm2-tss, which has
+//! the same limit on nonces and HMACs, knows no table, and shares nothing with the other judges. Recorded and published
+//! commands and those that are kept here, and damaged ones that are made of those with sessions.
 //!
 //! The library judges the types, not the command: what it passes and the standard reading does not is explained by what it
 //! does not judge, and by nothing else. What both pass they have to divide alike, to the bytes of each nonce and HMAC.
@@ -11,7 +11,7 @@ mod damage;
 mod library;
 
 use crate::answer::{Answer, Hex, keep};
-use crate::by::{By, Given};
+use crate::by::{By, Given, READINGS};
 use crate::calls::{self, Field, RUST, STANDARD, Session, Sessions, Span};
 use crate::frame::make::{self, PLAIN, SESSIONS};
 use crate::frame::{known, real};
@@ -154,7 +154,7 @@ struct Desk {
 
 impl Desk {
     fn new() -> Self {
-        let tallies = [false, true].map(|parts| Tally::of::<Taken>(name(parts), By::Standard));
+        let tallies = [false, true].map(|parts| Tally::of::<Taken>(name(parts), By::numbered(STANDARD, READINGS)));
         Self { case: Taken { parts: false, bytes: Vec::new() }, tallies }
     }
 

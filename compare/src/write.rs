@@ -1,9 +1,10 @@
 //! The write suite: whole commands and responses, written from their parts into lent room.
 //!
 //! Each call is made in the Rust mode and in the standard one, and a response also with the tag of the answer to a bad tag
-//! asked for. Document 01's rules, written out with those of the standard mode, judge everything. The crate judges inside
-//! document 01's domain, read with document 01's limit on sessions and no other change; in the standard mode too, with its
-//! own word on a nonce or an HMAC that is too long, but where that tag is asked for.
+//! asked for; most of them at the crate's table, and a part at the Library's too. Document 01's rules, written out with those
+//! of the standard mode and of the Library's tables, judge everything. The crate judges at its own table inside document 01's
+//! domain, read with document 01's limit on sessions and no other change; in the standard mode too, with its own word on a
+//! nonce or an HMAC that is too long, but where that tag is asked for.
 
 mod again;
 mod desk;
@@ -13,14 +14,18 @@ mod inputs;
 mod large;
 #[cfg(oracle)]
 mod limit;
+mod listed;
 #[cfg(oracle)]
 mod oracle;
 mod rules;
 
 pub use again::Again;
 pub use desk::Desk;
+pub use listed::list;
 
 use crate::answer::{Answer, Hex};
+#[cfg(oracle)]
+use crate::by::{self, CRATE_ALONE};
 use crate::by::{Given, MODES, READINGS};
 use crate::calls::{self, Field, Handed, Out, Session, Sessions};
 use crate::judge::{Case, Judge, Tally};
@@ -60,7 +65,7 @@ pub struct Write {
     pub kind: Kind,
     /// The sessions go in as an array of records, of at most `MOST`; the judges are asked the same either way.
     pub array: bool,
-    /// The number of the mode.
+    /// The number of the mode and of the table.
     pub by: u32,
     /// The tag of a command, the code of a response.
     pub number: u32,
@@ -79,8 +84,8 @@ pub struct Write {
 static FILL: LazyLock<Vec<u8>> =
     LazyLock::new(|| (0..1_usize << 20).map(|at| (at * 7 ^ at >> 8) as u8 ^ 0xC3).collect());
 
-/// `NAME NUMBER CC HANDLES COUNT SESSION SESSION SESSION LENT PARAMETERS ROOM`, the room by its length, and the mode behind
-/// it where it is not the Rust's.
+/// `NAME NUMBER CC HANDLES COUNT SESSION SESSION SESSION LENT PARAMETERS ROOM`, the room by its length, and behind it
+/// the mode where it is not the Rust's, and the table where it is not the crate's.
 impl fmt::Display for Write {
     fn fmt(&self, f: &mut fmt::Formatter) -> fmt::Result {
         write!(f, "{} {} {} {} ", self.kind.name(self.array), self.number, self.cc, Hex(&self.handles))?;
@@ -177,11 +182,11 @@ fn by_document(case: &Write, answer: &mut Answer) -> bool {
     })
 }
 
-/// The crate has the Rust mode alone, and the standard one is the same where the tag of the answer to a bad tag is not asked
+/// The crate has its own table and the Rust mode alone, and the standard one is the same where the tag of the answer to a bad tag is not asked
 /// for, but for a limit on nonces and HMACs.
 #[cfg(oracle)]
 fn by_crate(case: &Write, answer: &mut Answer) -> bool {
-    if !READINGS.contains(&case.by) {
+    if !by::sums(READINGS, CRATE_ALONE).any(|by| by == case.by) {
         return false;
     }
     case.try_write(answer, |given, room, out| {
@@ -242,6 +247,7 @@ pub fn run(random: &mut Random, thin: bool) -> Vec<Tally> {
     let before = limit::EXPLAINED.so_far();
     let mut desk = Desk::new();
     inputs::each(&mut desk, random, thin);
+    desk.tell_alike();
     large::check(&mut desk);
     #[cfg(oracle)]
     {

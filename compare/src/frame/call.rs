@@ -2,13 +2,13 @@
 
 use super::rules;
 use crate::answer::{Kept, keep};
-use crate::by::READINGS;
-use crate::calls::{self, Out, RUST};
+use crate::by::{self, By, CRATE_ALONE, NO_READING, READINGS};
+use crate::calls::{self, Out};
 
 #[cfg(oracle)]
 use super::{limit, make, oracle};
 #[cfg(oracle)]
-use crate::calls::STANDARD;
+use crate::calls::{RUST, STANDARD};
 
 /// What a call is about: the calls of a kind are asked together.
 #[derive(Clone, Copy, PartialEq)]
@@ -23,9 +23,19 @@ pub enum Kind {
     Setter,
 }
 
+/// What the number is that a call takes before all else.
+#[derive(Clone, Copy, PartialEq)]
+pub enum Takes {
+    /// There is none.
+    Nothing,
+    Table,
+    /// A reading's, and a table's added to it.
+    Rules,
+}
+
 /// Takes the number of the rules, the bytes, a number, a place for the parts, and the array; a call leaves alone what it
 /// has no use for.
-type Shape = fn(u32, &mut [u8], u32, &mut Kept, &mut Out) -> u32;
+pub type Shape = fn(u32, &mut [u8], u32, &mut Kept, &mut Out) -> u32;
 
 /// What a judge says in a call's place; none where it cannot be asked.
 pub type Says = fn(&Call, u32, &mut [u8], u32, &mut Kept, &mut Out) -> Option<u32>;
@@ -39,8 +49,8 @@ pub struct Call {
     pub kind: Kind,
     /// Whether it takes a number: a command code, a tag, a code to write.
     pub numbered: bool,
-    /// Whether it takes the number of the rules by which it judges.
-    pub ruled: bool,
+    /// By what it judges.
+    pub takes: Takes,
     pub ours: Shape,
     pub rules: Shape,
     #[cfg(oracle)]
@@ -52,9 +62,18 @@ impl Call {
         self.kind == Kind::Setter
     }
 
-    /// The readings in which it is compared.
+    /// The numbers by which it is compared at these tables.
+    pub fn numbers(&self, tables: &'static [u32]) -> impl Iterator<Item = u32> + use<> {
+        by::sums(self.readings(), if self.takes == Takes::Nothing { CRATE_ALONE } else { tables })
+    }
+
+    /// What a number names that it takes.
+    pub fn named(&self, by: u32) -> By {
+        By::numbered(by, self.readings())
+    }
+
     pub fn readings(&self) -> &'static [u32] {
-        if self.ruled { READINGS } else { &[RUST] }
+        if self.takes == Takes::Rules { READINGS } else { NO_READING }
     }
 
     /// Whether it is a full check, which walks the entries.
@@ -69,13 +88,13 @@ impl Call {
         Self::by_rules,
     ];
 
-    /// The crate has the Rust reading alone. The standard one parts from it in responses under the tag of the answer to a
-    /// bad tag, about which it is not asked, and in a limit, with which its answers are read.
+    /// The crate has its own table and the Rust reading alone. The standard one parts from it in responses under the tag of
+    /// the answer to a bad tag, about which it is not asked, and in a limit, with which its answers are read.
     #[cfg(oracle)]
     pub fn by_crate(&self, by: u32, s: &mut [u8], number: u32, kept: &mut Kept, out: &mut Out) -> Option<u32> {
         let can_be_asked = match by {
             RUST => true,
-            STANDARD => !(make::is_under_bad_tag(s) && self.name.starts_with("response")),
+            STANDARD if self.takes == Takes::Rules => !(make::is_under_bad_tag(s) && self.name.starts_with("response")),
             _ => false,
         };
         if can_be_asked { limit::limited(self, by, s, number, kept, out) } else { None }
@@ -97,9 +116,9 @@ pub static CALLS: [Call; 24] = [
         name: "table_find",
         kind: Kind::Table,
         numbered: true,
-        ruled: false,
-        ours: |_, _, n, _, out| calls::table_find(n, out),
-        rules: |_, _, n, _, out| rules::table_find(n, out),
+        takes: Takes::Table,
+        ours: |by, _, n, _, out| calls::table_find(by, n, out),
+        rules: |by, _, n, _, out| rules::table_find(by, n, out),
         #[cfg(oracle)]
         theirs: |_, n, _, out| Some(oracle::table_find(n, out)),
     },
@@ -107,9 +126,9 @@ pub static CALLS: [Call; 24] = [
         name: "table_known",
         kind: Kind::Table,
         numbered: true,
-        ruled: false,
-        ours: |_, _, n, _, out| calls::table_known(n, out),
-        rules: |_, _, n, _, out| rules::table_known(n, out),
+        takes: Takes::Table,
+        ours: |by, _, n, _, out| calls::table_known(by, n, out),
+        rules: |by, _, n, _, out| rules::table_known(by, n, out),
         #[cfg(oracle)]
         theirs: |_, n, _, out| Some(oracle::table_known(n, out)),
     },
@@ -117,7 +136,7 @@ pub static CALLS: [Call; 24] = [
         name: "tag_known",
         kind: Kind::Table,
         numbered: true,
-        ruled: false,
+        takes: Takes::Nothing,
         ours: |_, _, n, _, out| calls::tag_known(n as u16, out),
         rules: |_, _, n, _, out| rules::tag_known(n as u16, out),
         #[cfg(oracle)]
@@ -127,7 +146,7 @@ pub static CALLS: [Call; 24] = [
         name: "frame_tag",
         kind: Kind::Header,
         numbered: false,
-        ruled: false,
+        takes: Takes::Nothing,
         ours: |_, s, _, _, out| calls::frame_tag(s, out),
         rules: |_, s, _, _, out| rules::frame_tag(s, out),
         #[cfg(oracle)]
@@ -137,7 +156,7 @@ pub static CALLS: [Call; 24] = [
         name: "frame_size",
         kind: Kind::Header,
         numbered: false,
-        ruled: false,
+        takes: Takes::Nothing,
         ours: |_, s, _, _, out| calls::frame_size(s, out),
         rules: |_, s, _, _, out| rules::frame_size(s, out),
         #[cfg(oracle)]
@@ -147,7 +166,7 @@ pub static CALLS: [Call; 24] = [
         name: "frame_len",
         kind: Kind::Header,
         numbered: false,
-        ruled: false,
+        takes: Takes::Nothing,
         ours: |_, s, _, _, out| calls::frame_len(s, out),
         rules: |_, s, _, _, out| rules::frame_len(s, out),
         #[cfg(oracle)]
@@ -157,7 +176,7 @@ pub static CALLS: [Call; 24] = [
         name: "frame_is_empty",
         kind: Kind::Header,
         numbered: false,
-        ruled: false,
+        takes: Takes::Nothing,
         ours: |_, s, _, _, out| calls::frame_is_empty(s, out),
         rules: |_, s, _, _, out| rules::frame_is_empty(s, out),
         #[cfg(oracle)]
@@ -167,7 +186,7 @@ pub static CALLS: [Call; 24] = [
         name: "command_cast",
         kind: Kind::Command,
         numbered: false,
-        ruled: true,
+        takes: Takes::Rules,
         ours: |by, s, _, _, out| calls::command_cast(by, s, out),
         rules: |by, s, _, _, out| rules::command_cast(by, s, out),
         #[cfg(oracle)]
@@ -177,7 +196,7 @@ pub static CALLS: [Call; 24] = [
         name: "command_cast_prefix",
         kind: Kind::Command,
         numbered: false,
-        ruled: true,
+        takes: Takes::Rules,
         ours: |by, s, _, _, out| calls::command_cast_prefix(by, s, out),
         rules: |by, s, _, _, out| rules::command_cast_prefix(by, s, out),
         #[cfg(oracle)]
@@ -187,7 +206,7 @@ pub static CALLS: [Call; 24] = [
         name: "command_validate",
         kind: Kind::Command,
         numbered: false,
-        ruled: true,
+        takes: Takes::Rules,
         ours: |by, s, _, _, out| calls::command_validate(by, s, out),
         rules: |by, s, _, _, out| rules::command_validate(by, s, out),
         #[cfg(oracle)]
@@ -197,7 +216,7 @@ pub static CALLS: [Call; 24] = [
         name: "command_parts",
         kind: Kind::Command,
         numbered: false,
-        ruled: true,
+        takes: Takes::Rules,
         ours: |by, s, _, kept, out| keep(calls::command_parts(by, s, out), kept),
         rules: |by, s, _, kept, out| keep(rules::command_parts(by, s, out), kept),
         #[cfg(oracle)]
@@ -207,7 +226,7 @@ pub static CALLS: [Call; 24] = [
         name: "command_cc",
         kind: Kind::Command,
         numbered: false,
-        ruled: true,
+        takes: Takes::Rules,
         ours: |by, s, _, _, out| calls::command_cc(by, s, out),
         rules: |by, s, _, _, out| rules::command_cc(by, s, out),
         #[cfg(oracle)]
@@ -217,7 +236,7 @@ pub static CALLS: [Call; 24] = [
         name: "command_handles",
         kind: Kind::Command,
         numbered: false,
-        ruled: true,
+        takes: Takes::Rules,
         ours: |by, s, _, _, out| calls::command_handles(by, s, out),
         rules: |by, s, _, _, out| rules::command_handles(by, s, out),
         #[cfg(oracle)]
@@ -227,7 +246,7 @@ pub static CALLS: [Call; 24] = [
         name: "command_auth_area",
         kind: Kind::Command,
         numbered: false,
-        ruled: true,
+        takes: Takes::Rules,
         ours: |by, s, _, _, out| calls::command_auth_area(by, s, out),
         rules: |by, s, _, _, out| rules::command_auth_area(by, s, out),
         #[cfg(oracle)]
@@ -237,7 +256,7 @@ pub static CALLS: [Call; 24] = [
         name: "command_parameters",
         kind: Kind::Command,
         numbered: false,
-        ruled: true,
+        takes: Takes::Rules,
         ours: |by, s, _, _, out| calls::command_parameters(by, s, out),
         rules: |by, s, _, _, out| rules::command_parameters(by, s, out),
         #[cfg(oracle)]
@@ -247,7 +266,7 @@ pub static CALLS: [Call; 24] = [
         name: "response_cast",
         kind: Kind::Response,
         numbered: false,
-        ruled: true,
+        takes: Takes::Rules,
         ours: |by, s, _, _, out| calls::response_cast(by, s, out),
         rules: |by, s, _, _, out| rules::response_cast(by, s, out),
         #[cfg(oracle)]
@@ -257,7 +276,7 @@ pub static CALLS: [Call; 24] = [
         name: "response_cast_prefix",
         kind: Kind::Response,
         numbered: false,
-        ruled: true,
+        takes: Takes::Rules,
         ours: |by, s, _, _, out| calls::response_cast_prefix(by, s, out),
         rules: |by, s, _, _, out| rules::response_cast_prefix(by, s, out),
         #[cfg(oracle)]
@@ -267,7 +286,7 @@ pub static CALLS: [Call; 24] = [
         name: "response_validate",
         kind: Kind::Response,
         numbered: true,
-        ruled: true,
+        takes: Takes::Rules,
         ours: |by, s, cc, _, out| calls::response_validate(by, cc, s, out),
         rules: |by, s, cc, _, out| rules::response_validate(by, cc, s, out),
         #[cfg(oracle)]
@@ -277,7 +296,7 @@ pub static CALLS: [Call; 24] = [
         name: "response_parts",
         kind: Kind::Response,
         numbered: true,
-        ruled: true,
+        takes: Takes::Rules,
         ours: |by, s, cc, kept, out| keep(calls::response_parts(by, cc, s, out), kept),
         rules: |by, s, cc, kept, out| keep(rules::response_parts(by, cc, s, out), kept),
         #[cfg(oracle)]
@@ -287,7 +306,7 @@ pub static CALLS: [Call; 24] = [
         name: "response_rc",
         kind: Kind::Response,
         numbered: false,
-        ruled: true,
+        takes: Takes::Rules,
         ours: |by, s, _, _, out| calls::response_rc(by, s, out),
         rules: |by, s, _, _, out| rules::response_rc(by, s, out),
         #[cfg(oracle)]
@@ -297,7 +316,7 @@ pub static CALLS: [Call; 24] = [
         name: "response_body",
         kind: Kind::Response,
         numbered: false,
-        ruled: false,
+        takes: Takes::Nothing,
         ours: |_, s, _, _, out| calls::response_body(s, out),
         rules: |_, s, _, _, out| rules::response_body(s, out),
         #[cfg(oracle)]
@@ -307,7 +326,7 @@ pub static CALLS: [Call; 24] = [
         name: "frame_set_tag",
         kind: Kind::Setter,
         numbered: true,
-        ruled: false,
+        takes: Takes::Nothing,
         ours: |_, s, n, _, out| calls::frame_set_tag(n as u16, s, out),
         rules: |_, s, n, _, out| rules::frame_set_tag(s, n as u16, out),
         #[cfg(oracle)]
@@ -317,7 +336,7 @@ pub static CALLS: [Call; 24] = [
         name: "command_set_cc",
         kind: Kind::Setter,
         numbered: true,
-        ruled: true,
+        takes: Takes::Rules,
         ours: |by, s, n, _, out| calls::command_set_cc(by, n, s, out),
         rules: |by, s, n, _, out| rules::command_set_cc(by, s, n, out),
         #[cfg(oracle)]
@@ -327,7 +346,7 @@ pub static CALLS: [Call; 24] = [
         name: "response_set_rc",
         kind: Kind::Setter,
         numbered: true,
-        ruled: true,
+        takes: Takes::Rules,
         ours: |by, s, n, _, out| calls::response_set_rc(by, n, s, out),
         rules: |by, s, n, _, out| rules::response_set_rc(by, s, n, out),
         #[cfg(oracle)]

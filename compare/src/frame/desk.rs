@@ -1,18 +1,22 @@
 //! Where the calls are made: one case that is changed in place, and a tally for each call and the rules that it is given.
 
-use super::call::{CALLS, Call, Kind, named};
+use super::call::{CALLS, Call, Kind, Takes, named};
 use super::{Frame, known};
+use crate::alike::Alike;
 use crate::answer::Answer;
 use crate::area::Areas;
-use crate::by::{By, READINGS};
+use crate::by::{By, CRATE_ALONE, TABLES};
 use crate::calls::RUST;
-use crate::judge::{Case, RULES, Tally};
+use crate::judge::{self, Case, RULES, Tally};
 use crate::random::Random;
 
 pub struct Desk {
     case: Frame,
+    /// The tables at which calls are made that take one.
+    pub tables: &'static [u32],
+    alike: Alike,
     /// Those of each call, in the calls' order.
-    tallies: Vec<[Tally; By::ALL.len()]>,
+    tallies: Vec<[Tally; By::COUNT]>,
     setters: [usize; 3],
 }
 
@@ -38,7 +42,9 @@ impl Desk {
     pub fn new() -> Self {
         Self {
             case: Frame { call: &CALLS[0], by: RUST, bytes: Vec::new(), number: 0 },
-            tallies: CALLS.iter().map(|call| By::ALL.map(|by| Tally::of::<Frame>(call.name, by))).collect(),
+            tables: CRATE_ALONE,
+            alike: Alike::default(),
+            tallies: CALLS.iter().map(|call| By::all().map(|by| Tally::of::<Frame>(call.name, by))).collect(),
             setters: ["frame_set_tag", "command_set_cc", "response_set_rc"].map(named),
         }
     }
@@ -54,9 +60,30 @@ impl Desk {
         &mut self.case.bytes
     }
 
-    /// Makes a call in each reading that it takes, with the number if it takes one.
+    /// Makes calls at each table, as the inputs say, and then at the crate's alone again.
+    pub fn at_each_table(&mut self, inputs: impl FnOnce(&mut Self)) {
+        self.tables = &TABLES;
+        inputs(self);
+        self.tables = CRATE_ALONE;
+    }
+
+    /// Makes a call in each reading and at the tables, as far as it takes them, with the number if it takes one.
     pub fn ask(&mut self, call: usize, number: u32) {
-        CALLS[call].readings().iter().for_each(|&by| self.ask_by(by, call, number));
+        let asked = &CALLS[call];
+        asked.numbers(self.tables).for_each(|by| self.ask_by(by, call, number));
+        if asked.takes != Takes::Nothing && self.tables == TABLES {
+            asked.readings().iter().for_each(|&reading| self.hold_alike(reading, call));
+        }
+    }
+
+    /// Holds the answers to the call on the desk to each other that a reading has at each table.
+    fn hold_alike(&mut self, reading: u32, call: usize) {
+        let answers = TABLES.map(|table| {
+            self.case.by = table + reading;
+            judge::ours(&self.case)
+        });
+        let tally = &mut self.tallies[call][By::NO_RULES.place()];
+        self.alike.hold(self.case.code(), &self.case, &answers, tally);
     }
 
     /// Makes it by the rules of a number alone.
@@ -64,22 +91,22 @@ impl Desk {
         self.case.call = &CALLS[call];
         self.case.by = by;
         self.case.number = if self.case.call.numbered { number } else { 0 };
-        self.tallies[call][By::numbered(by, READINGS) as usize].check(&self.case);
+        self.tallies[call][CALLS[call].named(by).place()].check(&self.case);
     }
 
-    /// Makes a call in each reading that it takes on bytes that are not copied, so that they can be long and many: whether
+    /// Makes a call in each reading that it takes, at the crate's table, on bytes that are not copied, so that they can be long and many: whether
     /// any byte was changed is not looked at. Where a judge contradicts, the call is made once more as all others are, which
     /// counts and reports it.
     pub fn ask_in_place(&mut self, s: &mut [u8], call: usize, number: u32) {
         let asked = &CALLS[call];
-        for &by in asked.readings() {
+        for by in asked.numbers(CRATE_ALONE) {
             let ours = Answer::in_place(s, |s, kept, out| Some((asked.ours)(by, s, number, kept, out)));
             let ours = ours.expect("our call can be made");
             let mut theirs = [const { None }; Call::JUDGES.len()];
             for (place, says) in theirs.iter_mut().zip(Call::JUDGES) {
                 *place = Answer::in_place(s, |s, kept, out| says(asked, by, s, number, kept, out));
             }
-            let tally = By::numbered(by, READINGS) as usize;
+            let tally = asked.named(by).place();
             let mut judges = Frame::JUDGES.iter().zip(&theirs);
             if judges.all(|(judge, theirs)| theirs.as_ref().is_none_or(|theirs| judge.agrees(&ours, theirs))) {
                 self.tallies[call][tally].agreed(&ours, theirs.iter().map(Option::is_some));
@@ -132,11 +159,18 @@ impl Desk {
     pub fn merge(&mut self, other: &Self) {
         let others = other.tallies.iter().flatten();
         self.tallies.iter_mut().flatten().zip(others).for_each(|(mine, more)| mine.merge(more));
+        self.alike.merge(other.alike);
     }
 
-    /// The tally of a call in the Rust reading.
+    /// The tally of a call in the Rust reading at the crate's table.
     pub fn tally(&mut self, call: usize) -> &mut Tally {
-        &mut self.tallies[call][By::Rust as usize]
+        &mut self.tallies[call][By::NO_RULES.place()]
+    }
+
+    /// Tells what came of calls that differ in their table alone.
+    pub fn tell_alike(&mut self, suite: &str) {
+        let alike = self.alike;
+        alike.tell(suite, self.tally(named("command_validate")));
     }
 
     /// The counts of the calls that were made.

@@ -5,11 +5,12 @@ mod damage;
 mod entries;
 mod headers;
 mod lengths;
+mod tables;
 
-use super::call::{CALLS, Kind, named};
+use super::call::{CALLS, Kind, Takes, named};
 use super::desk::{Desk, Numbers};
 use super::{known, make};
-use crate::by::{self, READINGS};
+use crate::by;
 use crate::random::Random;
 use std::thread;
 
@@ -21,7 +22,10 @@ pub fn each(desk: &mut Desk, random: &mut Random, thin: bool) {
     let (mut beside, mut seeded) = (Desk::new(), Random::new(random.number()));
     thread::scope(|scope| {
         scope.spawn(|| short(&mut beside, &mut seeded, thin));
-        codes(desk);
+        desk.at_each_table(codes);
+        response_codes(desk);
+        desk.at_each_table(|desk| tables::each(desk, random));
+        tables::search(desk, thin);
         tags(desk, thin);
         headers::each(desk, random, thin);
         entries::each(desk, random, thin);
@@ -64,7 +68,10 @@ fn codes(desk: &mut Desk) {
             desk.ask_setters([tag.into(), code, code]);
         }
     }
-    // response codes, of which the last that reads is below 0x1000
+}
+
+/// Response codes, of which the last that reads is below 0x1000.
+fn response_codes(desk: &mut Desk) {
     for code in (0..0x2000).chain(all_codes()) {
         desk.lay(&make::fields(0x8001, 10, code));
         desk.ask_kind(Kind::Response, 0x144);
@@ -92,15 +99,16 @@ fn tags(desk: &mut Desk, thin: bool) {
     }
 }
 
-/// Each call that takes rules, with numbers that name none: on bytes that are cut, and on frames that pass and do not.
+/// Each call that takes rules or a table, with numbers that name none: on bytes that are cut, and on frames that pass and do
+/// not.
 fn unnamed(desk: &mut Desk, random: &mut Random) {
     let headers = [(make::PLAIN, 0x144), (make::PLAIN, 0), (make::RSP_COMMAND, make::BAD_TAG)];
     let frames = headers.iter().map(|&(tag, code)| make::fields(tag, 10, code)).chain([Vec::new(), random.bytes(9)]);
     let frames: Vec<_> = frames.collect();
     for (frame, number) in frames.iter().flat_map(|frame| [0, 0x144, u32::MAX].map(|number| (frame, number))) {
         desk.lay(frame);
-        for (at, _) in CALLS.iter().enumerate().filter(|(_, call)| call.ruled) {
-            by::unnamed(READINGS).for_each(|by| desk.ask_by(by, at, number));
+        for (at, call) in CALLS.iter().enumerate().filter(|(_, call)| call.takes != Takes::Nothing) {
+            by::unnamed(call.readings()).for_each(|by| desk.ask_by(by, at, number));
         }
     }
 }

@@ -1,7 +1,8 @@
-//! What document 01 takes from the crate as lists: the rows of the dispatch table, the tags, the response codes. The
-//! rules judge by these, so that they can be asked where the crate is not at hand; where it is, the table and tag calls
-//! hold both to it.
+//! What document 01 takes from the crate as lists: the rows of the dispatch table, the tags, the response codes; and the rows
+//! of the Library's tables. The rules judge by these, so that they can be asked where the crate is not at hand; where it
+//! is, the table and tag calls hold both to it.
 
+#[derive(Clone, Copy, PartialEq)]
 pub struct Row {
     pub code: u32,
     pub handles: usize,
@@ -9,20 +10,48 @@ pub struct Row {
     pub responses: usize,
 }
 
-/// The row of a command code. Every code that `TpmCc` has has one.
+/// A table of commands: the crate's, or the Library's at a revision.
+#[derive(Clone, Copy, PartialEq)]
+pub enum Table {
+    Crate,
+    Lib138,
+    Lib159,
+}
+
+impl Table {
+    pub const ALL: [Self; 3] = [Self::Crate, Self::Lib138, Self::Lib159];
+
+    /// The row of a command code. In the crate's table every code that `TpmCc` has has one.
+    pub fn row(self, code: u32) -> Option<Row> {
+        let at =
+            |rows: &[Listed]| rows.binary_search_by_key(&code, |&(code, _, _)| code).ok().map(|at| row_of(rows[at]));
+        self.parts().into_iter().find_map(at)
+    }
+
+    /// All rows, rising by code.
+    pub fn rows(self) -> impl Iterator<Item = Row> {
+        self.parts().into_iter().flatten().copied().map(row_of)
+    }
+
+    /// The rows that all tables have up to 0x193, those that this one has behind them, and the last, which all have.
+    fn parts(self) -> [&'static [Listed]; 3] {
+        let own: &[Listed] = match self {
+            Self::Crate => &CRATE,
+            Self::Lib138 => &[],
+            Self::Lib159 => &LIB159,
+        };
+        [&SHARED, own, &[(0x20000000, 0, 0)]]
+    }
+}
+
+/// The row of a command code in the crate's table.
 pub fn row(code: u32) -> Option<Row> {
-    let at = ROWS.binary_search_by_key(&code, |&(code, _, _)| code).ok()?;
-    Some(nth_row(at))
+    Table::Crate.row(code)
 }
 
-/// All rows, rising by code.
+/// All rows of the crate's table.
 pub fn rows() -> impl Iterator<Item = Row> {
-    (0..ROWS.len()).map(nth_row)
-}
-
-fn nth_row(at: usize) -> Row {
-    let (code, handles, responses) = ROWS[at];
-    Row { code, handles: handles.into(), responses: responses.into() }
+    Table::Crate.rows()
 }
 
 /// Whether `TpmSt` has a tag.
@@ -58,8 +87,15 @@ const BASES: [(u32, u32); 22] = [
 ];
 
 /// Code, handles, response handles.
+type Listed = (u32, u8, u8);
+
+fn row_of((code, handles, responses): Listed) -> Row {
+    Row { code, handles: handles.into(), responses: responses.into() }
+}
+
+/// Those that all tables have up to 0x193.
 #[rustfmt::skip]
-const ROWS: [(u32, u8, u8); 126] = [
+const SHARED: [Listed; 112] = [
     (0x11F, 2, 0), (0x120, 2, 0), (0x121, 1, 0), (0x122, 2, 0), (0x124, 1, 0), (0x125, 1, 0), (0x126, 1, 0),
     (0x127, 1, 0), (0x128, 1, 0), (0x129, 1, 0), (0x12A, 1, 0), (0x12B, 1, 0), (0x12C, 1, 0), (0x12D, 1, 0),
     (0x12E, 1, 0), (0x12F, 2, 0), (0x130, 1, 0), (0x131, 1, 1), (0x132, 1, 0), (0x133, 2, 0), (0x134, 2, 0),
@@ -76,6 +112,14 @@ const ROWS: [(u32, u8, u8); 126] = [
     (0x17F, 1, 0), (0x180, 1, 0), (0x181, 0, 0), (0x182, 1, 0), (0x183, 1, 0), (0x184, 3, 0), (0x185, 2, 0),
     (0x186, 0, 1), (0x187, 1, 0), (0x188, 1, 0), (0x189, 1, 0), (0x18A, 0, 0), (0x18B, 1, 0), (0x18C, 1, 0),
     (0x18D, 1, 0), (0x18E, 0, 0), (0x18F, 1, 0), (0x190, 1, 0), (0x191, 1, 1), (0x192, 3, 0), (0x193, 1, 0),
-    (0x194, 1, 0), (0x195, 3, 0), (0x196, 1, 0), (0x198, 1, 0), (0x199, 1, 0), (0x19A, 1, 0), (0x19B, 1, 0),
-    (0x19C, 1, 0), (0x19D, 1, 0), (0x19E, 1, 0), (0x19F, 1, 0), (0x1A0, 1, 0), (0x1A1, 1, 0), (0x20000000, 0, 0),
 ];
+
+/// The crate has no CertifyX509, 0x197, and commands of later revisions.
+#[rustfmt::skip]
+const CRATE: [Listed; 13] = [
+    (0x194, 1, 0), (0x195, 3, 0), (0x196, 1, 0), (0x198, 1, 0), (0x199, 1, 0), (0x19A, 1, 0), (0x19B, 1, 0),
+    (0x19C, 1, 0), (0x19D, 1, 0), (0x19E, 1, 0), (0x19F, 1, 0), (0x1A0, 1, 0), (0x1A1, 1, 0),
+];
+
+/// Revision 1.38 has none of these.
+const LIB159: [Listed; 5] = [(0x194, 1, 0), (0x195, 3, 0), (0x196, 1, 0), (0x197, 2, 0), (0x198, 1, 0)];

@@ -1,7 +1,10 @@
 //! The fixed list's part on frames: calls of every kind, so chosen that each refusal comes from each place of document
 //! 01's order of checks; its worked frames; and real frames. For a replay on machines without Rust.
 
+mod revisions;
 mod worked;
+
+pub use revisions::any_row;
 
 use super::call::{CALLS, Kind, named};
 use super::known::{self, Row};
@@ -13,7 +16,7 @@ use crate::edges;
 use crate::judge;
 use crate::random::Random;
 
-/// One line, in the Rust reading.
+/// One line, in the Rust reading at the crate's table.
 fn line(call: usize, bytes: &[u8], number: u32) {
     line_by(RUST, call, bytes, number);
 }
@@ -68,6 +71,7 @@ pub fn list(random: &mut Random) {
     counts(random);
     kept();
     limits(random);
+    revisions::list(random);
 }
 
 /// Every row, and codes and tags beside them.

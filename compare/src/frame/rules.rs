@@ -1,6 +1,6 @@
 //! Document 01's order of checks, written out, with what document 02 adds to it for the standard reading: the answer to a
-//! bad tag, and a limit on nonces and HMACs; and with the area of each refusal, which is document 02's too. It has an
-//! answer for every input, also where the crate has none.
+//! bad tag, and a limit on nonces and HMACs; with the tables of the Library; and with the area of each refusal: these are
+//! document 02's too. It has an answer for every input, also where the crate has none.
 //!
 //! Each public function has the shape of our call: what is lent goes in, the number comes out, the array takes the rest; the
 //! parts come by value.
@@ -9,8 +9,9 @@ mod parts;
 
 pub use parts::{command_parts, command_validate, response_parts, response_validate};
 
-use super::known::{self, Row};
+use super::known::{self, Row, Table};
 use crate::area::{self, Area};
+use crate::by;
 use crate::calls::{self, Out};
 use crate::report::report;
 
@@ -50,7 +51,7 @@ const SESSIONS: usize = 0x8002;
 const RSP_COMMAND: usize = 0x00C4;
 const BAD_TAG: u32 = 0x1E;
 
-// ---- the readings
+// ---- the readings and the tables
 
 /// The Rust's, which is document 01's and admits two tags only, and the standard one.
 #[derive(Clone, Copy, PartialEq)]
@@ -59,13 +60,34 @@ enum Reading {
     Standard,
 }
 
-/// The reading that a number names; one that names none is refused before anything else.
+/// A number that names nothing is refused before anything else.
+fn unnamed(by: u32) -> Refusal {
+    refusal(Area::None, 101, 0, by as usize)
+}
+
+/// The table that a number names which names nothing else.
+fn table(by: u32) -> Read<Table> {
+    by::table(by).ok_or(unnamed(by))
+}
+
+/// The reading and the table that a number names.
+fn rules(by: u32) -> Read<(Reading, Table)> {
+    let (reading, table) = by::parts(by);
+    let reading = match reading {
+        calls::RUST => Reading::Rust,
+        calls::STANDARD => Reading::Standard,
+        _ => return Err(unnamed(by)),
+    };
+    Ok((reading, by::table(table).ok_or(unnamed(by))?))
+}
+
 fn reading(by: u32) -> Read<Reading> {
-    match by {
-        calls::RUST => Ok(Reading::Rust),
-        calls::STANDARD => Ok(Reading::Standard),
-        _ => Err(refusal(Area::None, 101, 0, by as usize)),
-    }
+    rules(by).map(|(reading, _)| reading)
+}
+
+/// The table, of a command, which both readings judge alike up to its entries.
+fn table_of(by: u32) -> Read<Table> {
+    rules(by).map(|(_, table)| table)
 }
 
 impl Reading {
@@ -99,12 +121,13 @@ fn code_field(s: &[u8]) -> u32 {
 
 // ---- the table
 
-pub fn table_find(code: u32, out: &mut Out) -> u32 {
-    tell(row_of(Area::None, code), |row| [row.handles, row.responses], out)
+pub fn table_find(by: u32, code: u32, out: &mut Out) -> u32 {
+    let row = table(by).and_then(|table| row_of(table, Area::None, code));
+    tell(row, |row| [row.handles, row.responses], out)
 }
 
-pub fn table_known(code: u32, out: &mut Out) -> u32 {
-    give(&[known::row(code).is_some().into()], out)
+pub fn table_known(by: u32, code: u32, out: &mut Out) -> u32 {
+    tell(table(by), |table| [table.row(code).is_some().into()], out)
 }
 
 pub fn tag_known(tag: u16, out: &mut Out) -> u32 {
@@ -112,8 +135,8 @@ pub fn tag_known(tag: u16, out: &mut Out) -> u32 {
 }
 
 /// The row of a code that is no part of the bytes: there need be no frame.
-fn row_of(area: Area, code: u32) -> Read<Row> {
-    known::row(code).ok_or(refusal(area, 4, 0, code as usize))
+fn row_of(table: Table, area: Area, code: u32) -> Read<Row> {
+    table.row(code).ok_or(refusal(area, 4, 0, code as usize))
 }
 
 // ---- fields
@@ -128,9 +151,10 @@ fn known_tag(tag: usize) -> Read<usize> {
     if known::is_tag(tag as u16) { Ok(tag) } else { Err(refusal(Area::Header, 3, 0, tag)) }
 }
 
-/// A code that `TpmCc` has. Each has a row, so a code that is known but has none does not occur.
-fn known_code(code: u32) -> Read<Row> {
-    known::row(code).ok_or(refusal(Area::Header, 4, 6, code as usize))
+/// A code that is known: at the crate's table those that `TpmCc` has, at the Library's their own. Each has a row, so a code
+/// that is known but has none does not occur.
+fn known_code(table: Table, code: u32) -> Read<Row> {
+    table.row(code).ok_or(refusal(Area::Header, 4, 6, code as usize))
 }
 
 /// A code that reads in a response of this tag. In the answer to a bad tag its own code does and no other, whether or not
@@ -158,8 +182,13 @@ pub fn frame_is_empty(s: &[u8], out: &mut Out) -> u32 {
 }
 
 pub fn command_cc(by: u32, s: &[u8], out: &mut Out) -> u32 {
-    let row = reading(by).and_then(|_| header(s)).and_then(|()| known_code(code_field(s)));
-    tell(row, |row| [row.code as usize], out)
+    tell(command_row(by, s), |row| [row.code as usize], out)
+}
+
+fn command_row(by: u32, s: &[u8]) -> Read<Row> {
+    let table = table_of(by)?;
+    header(s)?;
+    known_code(table, code_field(s))
 }
 
 pub fn response_rc(by: u32, s: &[u8], out: &mut Out) -> u32 {
@@ -180,7 +209,7 @@ pub fn frame_set_tag(s: &mut [u8], tag: u16, out: &mut Out) -> u32 {
 }
 
 pub fn command_set_cc(by: u32, s: &mut [u8], code: u32, out: &mut Out) -> u32 {
-    let set = reading(by).and_then(|_| header(s)).and_then(|()| row_of(Area::Header, code));
+    let set = table_of(by).and_then(|table| header(s).and_then(|()| row_of(table, Area::Header, code)));
     tell(set.map(|_| s[6..10].copy_from_slice(&code.to_be_bytes())), |()| [], out)
 }
 
@@ -234,14 +263,13 @@ fn sized(area: Area, s: &[u8], at: usize) -> Read<(usize, usize)> {
 }
 
 /// Where the handles of a command end. All bytes are taken, whatever the size field says.
-fn command_handles_end(s: &[u8]) -> Read<usize> {
-    header(s)?;
-    handles_end(s, known_code(code_field(s))?.handles)
+fn command_handles_end(by: u32, s: &[u8]) -> Read<usize> {
+    handles_end(s, command_row(by, s)?.handles)
 }
 
 /// Where a command's handles end, and where its authorization area starts and ends.
-fn command_areas(s: &[u8]) -> Read<(usize, usize, usize)> {
-    let handles = command_handles_end(s)?;
+fn command_areas(by: u32, s: &[u8]) -> Read<(usize, usize, usize)> {
+    let handles = command_handles_end(by, s)?;
     if known_tag(tag_field(s))? != SESSIONS {
         return Ok((handles, handles, handles));
     }
@@ -250,15 +278,15 @@ fn command_areas(s: &[u8]) -> Read<(usize, usize, usize)> {
 }
 
 pub fn command_handles(by: u32, s: &[u8], out: &mut Out) -> u32 {
-    tell(reading(by).and_then(|_| command_handles_end(s)), |end| [HEADER, end], out)
+    tell(command_handles_end(by, s), |end| [HEADER, end], out)
 }
 
 pub fn command_auth_area(by: u32, s: &[u8], out: &mut Out) -> u32 {
-    tell(reading(by).and_then(|_| command_areas(s)), |(_, from, to)| [from, to], out)
+    tell(command_areas(by, s), |(_, from, to)| [from, to], out)
 }
 
 pub fn command_parameters(by: u32, s: &[u8], out: &mut Out) -> u32 {
-    tell(reading(by).and_then(|_| command_areas(s)), |(_, _, to)| [to, s.len()], out)
+    tell(command_areas(by, s), |(_, _, to)| [to, s.len()], out)
 }
 
 pub fn response_body(s: &[u8], out: &mut Out) -> u32 {
@@ -279,12 +307,12 @@ fn first(s: &[u8]) -> Read<&[u8]> {
     prefix(s).map(|(frame, _)| frame)
 }
 
-/// A command up to its entries, which both readings judge alike.
+/// A command up to its entries.
 fn command_judged(by: u32, s: &[u8], taken: Taken) -> Read<&[u8]> {
-    reading(by)?;
+    rules(by)?;
     let frame = taken(s)?;
     frame_tag_of(frame)?;
-    command_areas(frame)?;
+    command_areas(by, frame)?;
     Ok(frame)
 }
 

@@ -158,7 +158,7 @@ const THINNED: usize = 3_000;
 const CALLS: usize = 8;
 
 /// The numbers that have to occur with each call.
-const NUMBERS: [&[u32]; NAMES.len()] = [&[0], &[0, 8, 15, 16], &[0, 13, 14], &[0, 17], &[0, 17], &[0]];
+const NUMBERS: [&[u32]; NAMES.len()] = [&[0], &[0, 8, 15, 16], &[0, 13, 14, 101], &[0, 17], &[0, 17], &[0]];
 
 pub fn check(random: &mut Random, thin: bool) -> Vec<Tally> {
     let mut tallies = NAMES.map(|name| Tally::new::<Any>(format!("{name} on any bytes")));

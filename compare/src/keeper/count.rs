@@ -11,7 +11,7 @@ use std::collections::{BTreeMap, BTreeSet};
 
 /// The numbers that have to occur with each call, 0 for one that is accepted.
 const NUMBERS: [&[u32]; NAMES.len()] =
-    [&[0], &[0, 8, 15, 16], &[0, 1, 2, 3, 4, 5, 6, 8, 13, 14], &[0, 17], &[0, 17], &[0]];
+    [&[0], &[0, 8, 15, 16], &[0, 1, 2, 3, 4, 5, 6, 8, 13, 14, 101], &[0, 17], &[0, 17], &[0]];
 
 /// Refusals that have to be true at once.
 const AT_ONCE: [&[u32]; 5] = [&[13, 14], &[15, 8], &[15, 16], &[8, 16], &[15, 8, 16]];
@@ -83,17 +83,19 @@ impl Count {
         }
         match (step, pair) {
             (Step::Open(handle, _), _) if number == 0 => self.opened(kept, *handle),
-            (Step::Answer(_, response), Pair::Success(named, given)) => {
+            (Step::Answer(_, _, response), Pair::Success(named, given)) => {
                 self.succeeded(kept, named, response);
                 if number == 0 {
                     self.moved(kept, named, given);
                 }
             }
-            (Step::Answer(_, response), Pair::Error) => {
+            (Step::Answer(_, _, response), Pair::Error) => {
                 self.reach(Reached::Error, 1);
                 self.reach(Reached::BadTag, make::is_under_bad_tag(response).into());
             }
-            (Step::Answer(_, response), _) => self.reach(Reached::RefusedTwice, pair.is_refused_twice(response).into()),
+            (Step::Answer(_, _, response), _) => {
+                self.reach(Reached::RefusedTwice, pair.is_refused_twice(response).into())
+            }
             _ => (),
         }
     }

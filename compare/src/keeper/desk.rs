@@ -5,6 +5,7 @@ use super::count::Count;
 use super::step::NAMES;
 use super::{Kept, Lent, Pair, Run, Step};
 use crate::answer::Answer;
+use crate::by::By;
 use crate::frame::{Call, Says};
 use crate::judge::Tally;
 
@@ -16,7 +17,7 @@ pub struct Desk {
     lent: Box<Lent>,
     kept: Kept,
     pub count: Count,
-    tallies: [Tally; NAMES.len()],
+    tallies: [[Tally; By::COUNT]; NAMES.len()],
     ours: Answer,
     /// What is told behind a call: ours, and theirs.
     told: [Vec<u8>; 2],
@@ -29,7 +30,7 @@ impl Desk {
             lent: Lent::before(&Step::Len),
             kept: Kept::default(),
             count: Count::default(),
-            tallies: NAMES.map(Tally::new::<Run>),
+            tallies: NAMES.map(|name| By::all().map(|by| Tally::of::<Run>(name, by))),
             ours: Answer::new(),
             told: Default::default(),
         }
@@ -68,35 +69,31 @@ impl Desk {
             OTHERS.iter().map(|judge| Pair::of(&step, *judge).filter(Pair::is_some)).collect();
         let alike = others.iter().flatten().all(|other| other.is_but_for_area(&pair));
         let same = self.ours.said == right && ours == theirs && alike;
-        let call = step.call();
+        let tally = &mut self.tallies[step.call()][step.by().place()];
         self.run.steps.push(step);
         if same {
-            self.tallies[call].agreed(&self.ours, others.iter().map(Option::is_some).chain([true]));
+            tally.agreed(&self.ours, others.iter().map(Option::is_some).chain([true]));
             return Some(right.number());
         }
         self.run.watched.extend(watched);
-        self.differ(call);
+        let before = tally.count().mismatches;
+        tally.check(&self.run);
+        assert!(tally.count().mismatches > before, "a call differs in a longer run alone: {}", self.run);
         None
-    }
-
-    fn differ(&mut self, call: usize) {
-        let mismatches = |tallies: &[Tally]| tallies[call].count().mismatches;
-        let before = mismatches(&self.tallies);
-        self.tallies[call].check(&self.run);
-        assert!(mismatches(&self.tallies) > before, "{} differs in a longer run alone", NAMES[call]);
     }
 
     /// Whether nothing differs so far. Where something does, the runs that end there may reach less.
     pub fn agrees(&self) -> bool {
-        self.tallies.iter().all(|tally| tally.count().mismatches == 0)
+        self.tallies.iter().flatten().all(|tally| tally.count().mismatches == 0)
     }
 
+    /// The tally of a call that names the crate's table or none.
     pub fn tally(&mut self, call: usize) -> &mut Tally {
-        &mut self.tallies[call]
+        &mut self.tallies[call][By::NO_RULES.place()]
     }
 
     /// The counts of the calls that were made.
     pub fn done(self) -> Vec<Tally> {
-        self.tallies.into_iter().filter(|tally| tally.calls() > 0).collect()
+        self.tallies.into_iter().flatten().filter(|tally| tally.calls() > 0).collect()
     }
 }

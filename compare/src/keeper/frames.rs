@@ -1,7 +1,10 @@
 //! Commands and responses: right ones, errors, answers of another count or to another command, nonces that are too long, and
-//! frames that are damaged. The handles of the command's entries go in; an answer with its command comes out.
+//! frames that are damaged. The handles of the command's entries go in; an answer with its command and a table's number comes
+//! out.
 
 use super::Step;
+use crate::by::{self, NO_READING, TABLES};
+use crate::calls::REVISION_CRATE;
 use crate::frame::known::{self, Row};
 use crate::frame::make::{self, BAD_TAG, PLAIN, RSP_COMMAND, SESSIONS};
 use crate::random::Random;
@@ -17,7 +20,17 @@ const UNREADABLE: [u32; 5] = [0xC4, 0x10C4, 0x30, 0x7F, u32::MAX];
 pub fn answer(handles: &[u32], random: &mut Random) -> Step {
     let row = row(random);
     let command = command(&row, handles, random);
-    Step::Answer(command, response(&row, handles.len(), random))
+    let response = response(&row, handles.len(), random);
+    Step::Answer(revision(random), command, response)
+}
+
+/// Mostly the crate's table, at times another, and seldom a number that names none.
+fn revision(random: &mut Random) -> u32 {
+    match random.byte() {
+        0 => random.pick(&by::unnamed(NO_READING).collect::<Vec<u32>>()),
+        1..16 => random.pick(&TABLES[1..]),
+        _ => REVISION_CRATE,
+    }
 }
 
 fn row(random: &mut Random) -> Row {

@@ -81,7 +81,7 @@ impl Kept {
             (Step::New, _) => self.open.clear(),
             (Step::Open(handle, nonce), _) => _ = self.open.insert(*handle, nonce.clone()),
             (Step::Close(handle), _) => _ = self.open.remove(handle),
-            (Step::Answer(_, response), Pair::Success(named, given)) => {
+            (Step::Answer(_, _, response), Pair::Success(named, given)) => {
                 for (handle, entry) in handles(named).iter().zip(&given.three) {
                     let Field { at, size } = entry.nonce;
                     if let Some(nonce) = self.open.get_mut(handle) {

@@ -1,6 +1,7 @@
 //! One call on a keeper with its input, and the simpler ones of it.
 
 use crate::answer::Hex;
+use crate::by::{By, Given, NO_READING};
 use crate::calls::{self, Keeper, Out};
 use crate::frame::make;
 use crate::shrink;
@@ -10,8 +11,8 @@ use std::fmt;
 pub enum Step {
     New,
     Open(u32, Vec<u8>),
-    /// A command, and the response to it.
-    Answer(Vec<u8>, Vec<u8>),
+    /// The number of a table, a command, and the response to it.
+    Answer(u32, Vec<u8>, Vec<u8>),
     Close(u32),
     Ask(u32),
     Len,
@@ -38,6 +39,11 @@ impl Step {
         }
     }
 
+    /// What it judges by.
+    pub fn by(&self) -> By {
+        if let Self::Answer(revision, ..) = self { By::numbered(*revision, NO_READING) } else { By::NO_RULES }
+    }
+
     /// Whether it only asks, and leaves the keeper as it is.
     pub fn asks(&self) -> bool {
         matches!(self, Self::Ask(_) | Self::Len)
@@ -47,7 +53,9 @@ impl Step {
         match self {
             Self::New => calls::keeper_new(keeper, out),
             Self::Open(handle, nonce) => calls::keeper_open(*handle, nonce, keeper, out),
-            Self::Answer(command, response) => calls::keeper_answer(command, response, keeper, out),
+            Self::Answer(revision, command, response) => {
+                calls::keeper_answer(*revision, command, response, keeper, out)
+            }
             Self::Close(handle) => calls::keeper_close(*handle, keeper, out),
             Self::Ask(handle) => calls::keeper_ask(*handle, keeper, out),
             Self::Len => calls::keeper_len(keeper, out),
@@ -61,9 +69,9 @@ impl Step {
                 let nonces = shorter(nonce).map(|nonce| Self::Open(*handle, nonce));
                 Box::new(nonces.chain(smaller(*handle).map(|handle| Self::Open(handle, nonce.clone()))))
             }
-            Self::Answer(command, response) => {
-                let responses = simpler_frame(response).map(|response| Self::Answer(command.clone(), response));
-                let commands = simpler_frame(command).map(|command| Self::Answer(command, response.clone()));
+            Self::Answer(at, command, response) => {
+                let responses = simpler_frame(response).map(|response| Self::Answer(*at, command.clone(), response));
+                let commands = simpler_frame(command).map(|command| Self::Answer(*at, command, response.clone()));
                 Box::new(responses.chain(commands))
             }
             Self::Close(handle) => Box::new(smaller(*handle).map(Self::Close)),
@@ -72,14 +80,16 @@ impl Step {
     }
 }
 
-/// `NAME HANDLE BYTES BYTES`, as far as the call takes them.
+/// `NAME HANDLE BYTES BYTES`, as far as the call takes them, and behind them the table where it is not the crate's.
 impl fmt::Display for Step {
     fn fmt(&self, f: &mut fmt::Formatter) -> fmt::Result {
         write!(f, "{}", NAMES[self.call()])?;
         match self {
             Self::New | Self::Len => Ok(()),
             Self::Open(handle, nonce) => write!(f, " {handle:x} {}", Hex(nonce)),
-            Self::Answer(command, response) => write!(f, " {} {}", Hex(command), Hex(response)),
+            Self::Answer(revision, command, response) => {
+                write!(f, " {} {}{}", Hex(command), Hex(response), Given(*revision))
+            }
             Self::Close(handle) | Self::Ask(handle) => write!(f, " {handle:x}"),
         }
     }

@@ -1,6 +1,6 @@
-//! A nonce keeper beside each recording: every pair is handed to it in turn, and its calls are judged as in the keeper suite.
-//! Behind each pair, moreover, the nonce that is kept for each session that the command names has to be the one that the
-//! recording has for it, read back from there by `by_hand`, which takes frames apart by itself.
+//! A nonce keeper beside each recording, at each table: every pair is handed to it in turn, and its calls are judged as in the
+//! keeper suite. Behind each pair, moreover, the nonce that is kept for each session that the command names has to be the one
+//! that the recording has for it, read back from there by `by_hand`, which takes frames apart by itself.
 //!
 //! A session is opened where TPM2_StartAuthSession succeeds, with the nonce that its answer starts with. It is closed where
 //! TPM2_FlushContext of it succeeds, and behind a success to a command whose entry for it does not let it go on. The recordings
@@ -17,7 +17,8 @@ mod by_hand;
 
 use super::Pair;
 use crate::answer::Hex;
-use crate::judge::RULES;
+use crate::by;
+use crate::judge::{RULES, Tally};
 use crate::keeper::{ANSWER, CLOSE, Desk, OPEN, Reached, Step, by_number};
 use by_hand::Read;
 
@@ -29,26 +30,31 @@ struct Count {
     held: u64,
 }
 
-pub fn check(desk: &mut Desk, recordings: &[Vec<Pair>]) {
-    let mut count = Count::default();
+/// At the table of a number; what was counted comes out.
+pub fn check(revision: u32, recordings: &[Vec<Pair>]) -> Vec<Tally> {
+    let (mut desk, mut count) = (Desk::new(), Count::default());
+    let table = by::table(revision).expect("a table");
     for pairs in recordings {
         desk.start(&[]);
-        let read: Vec<Read> = pairs.iter().map(by_hand::read).collect();
-        let mut file = File { desk, count: &mut count, open: Vec::new() };
+        let read: Vec<Read> = pairs.iter().map(|pair| by_hand::read(table, pair)).collect();
+        let mut file = File { revision, desk: &mut desk, count: &mut count, open: Vec::new() };
         // it ends where the keeper differs from document 02, which is told by then
         _ = (0..pairs.len()).try_for_each(|at| file.pair(&pairs[at], &read[..=at]));
     }
     let [opened, answered, closed] = [OPEN, ANSWER, CLOSE].map(|call| by_number(desk.count.numbers(call)));
     let (moved, Count { flushed, ended, held }) = (desk.count.times(Reached::Moved), count);
-    print!("traffic: {} nonce keepers: sessions opened: {opened}; answers: {answered}; ", recordings.len());
+    let (keepers, at) = (recordings.len(), by::at(table));
+    print!("traffic: {keepers} nonce keepers{at}: sessions opened: {opened}; answers: {answered}; ");
     println!("{moved} nonces moved, {held} held to the recordings; closed: {closed}, {flushed} flushed, {ended} ended");
     if held == 0 && desk.agrees() {
         desk.tally(ANSWER).differs_from(RULES, "no nonce is held to a recording");
     }
+    desk.done()
 }
 
 /// A recording, as far as it went.
 struct File<'a> {
+    revision: u32,
     desk: &'a mut Desk,
     count: &'a mut Count,
     /// The sessions that are open by the recording.
@@ -58,7 +64,7 @@ struct File<'a> {
 impl File<'_> {
     /// Hands over the next pair, which is the last that was read. None where the keeper differs from document 02.
     fn pair(&mut self, (command, response): &Pair, read: &[Read]) -> Option<()> {
-        self.desk.take(Step::Answer(command.clone(), response.clone()), &self.open)?;
+        self.desk.take(Step::Answer(self.revision, command.clone(), response.clone()), &self.open)?;
         let pair = read.last().expect("a pair was read");
         for entry in pair.named.iter().filter(|entry| entry.is_session()) {
             let open = self.open.contains(&entry.handle);

@@ -4,10 +4,10 @@ mod fields;
 mod mixed;
 
 use super::{Again, Desk, Kind};
-use crate::by::{self, READINGS};
+use crate::by::{self, READINGS, TABLES};
 use crate::calls::{Field, STANDARD, Session, Sessions};
 use crate::edges;
-use crate::frame::known::{self, Row};
+use crate::frame::known::{self, Row, Table};
 use crate::frame::make::{self, BAD_TAG, PLAIN, RSP_COMMAND};
 use crate::random::Random;
 use std::thread;
@@ -19,7 +19,7 @@ pub fn each(desk: &mut Desk, random: &mut Random, thin: bool) {
     thread::scope(|scope| {
         scope.spawn(|| mixed::each(&mut beside, &pool, &mut seeded, rounds(thin)));
         tags(desk, &pool, random, thin);
-        codes(desk, &pool, random);
+        desk.at_each_table(|desk| codes(desk, &pool, random));
         response_codes(desk, &pool, random, thin);
         rows(desk, &pool, random, thin);
         parameters(desk, &pool, random);
@@ -109,8 +109,7 @@ fn in_rooms(desk: &mut Desk) {
 fn in_rooms_by(desk: &mut Desk, modes: &[u32]) {
     let needed = desk.case.needed();
     for room in [needed, needed - 1, needed + 1, needed + 1_000, 0] {
-        desk.case.room = room;
-        modes.iter().for_each(|&by| desk.ask_by(by));
+        desk.ask_in_modes(room, modes);
     }
 }
 
@@ -130,7 +129,7 @@ fn tags(desk: &mut Desk, pool: &Pool, random: &mut Random, thin: bool) {
     }
 }
 
-/// Codes with a row and without, with handle bytes for each number of handles.
+/// Codes with a row and without, with handle bytes for each number of handles: at each table.
 fn codes(desk: &mut Desk, pool: &Pool, random: &mut Random) {
     let any = known::row(0x144).expect("a row");
     let codes = (0..0x400).chain(0x1FFF_FF00..0x2000_0100).chain([1 << 31, u32::MAX - 1, u32::MAX]);
@@ -196,11 +195,14 @@ fn parameters(desk: &mut Desk, pool: &Pool, random: &mut Random) {
     }
 }
 
-/// Frames of every row, with each number of entries and without an area, written again from their parts; and bare errors,
-/// the answer to a bad tag among them, which passes in the standard reading alone.
+/// Frames of every row of any table, with each number of entries and without an area, written again from their parts; and bare
+/// errors, the answer to a bad tag among them, which passes in the standard reading alone. Each passes at the tables that have
+/// the row.
 fn made_frames(desk: &mut Desk, random: &mut Random) {
     let mut again = Again::new();
-    for row in known::rows() {
+    for row in known::rows().chain(Table::Lib159.row(0x197)) {
+        let tables = TABLES.into_iter().zip(Table::ALL).filter(|(_, table)| table.row(row.code).is_some());
+        let tables: Vec<u32> = tables.map(|(number, _)| number).collect();
         for count in [None, Some(0), Some(1), Some(2), Some(3)] {
             for parameters in [0, 1, 20] {
                 let [command, response] = [true, false].map(|command| {
@@ -208,14 +210,14 @@ fn made_frames(desk: &mut Desk, random: &mut Random) {
                     let make = if command { make::command } else { make::response };
                     make(&row, count.map(|_| entries.as_slice()), &random.bytes(parameters), random)
                 });
-                again.passing(READINGS, Kind::Command, row.code, &command);
-                again.passing(READINGS, Kind::Response, row.code, &response);
+                again.passing((READINGS, &tables), Kind::Command, row.code, &command);
+                again.passing((READINGS, &tables), Kind::Response, row.code, &response);
             }
         }
         for (readings, tag, code) in
             [(READINGS, PLAIN, 0x101), (READINGS, PLAIN, BAD_TAG), (&[STANDARD], RSP_COMMAND, BAD_TAG)]
         {
-            again.passing(readings, Kind::Response, row.code, &make::fields(tag, 10, code));
+            again.passing((readings, &tables), Kind::Response, row.code, &make::fields(tag, 10, code));
         }
     }
     again.tell("write");

@@ -1,10 +1,11 @@
 //! Document 01's order of checks from "Command writer" on, written out, with what document 02 adds to it for the standard
-//! mode: the answer to a bad tag, and a limit on nonces and HMACs. It has an answer for every input.
+//! mode: the answer to a bad tag, and a limit on nonces and HMACs; and with the tables of the Library. It has an answer for
+//! every input.
 
 use crate::area::{self, Area};
-use crate::by::{MODES, READINGS};
+use crate::by::{self, MODES, READINGS};
 use crate::calls::{Field, Handed, Out, RUST, STANDARD_BAD_TAG, Session};
-use crate::frame::known::{self, Row};
+use crate::frame::known::{self, Row, Table};
 use crate::report::report;
 
 /// A refusal: its number and its fields, of which 1, 6, 8 and 9 have three and the others two.
@@ -23,8 +24,9 @@ const SESSIONS: u16 = 0x8002;
 const RSP_COMMAND: u16 = 0x00C4;
 const BAD_TAG: u32 = 0x1E;
 
-/// All that the modes differ in.
+/// All that the modes differ in, and the table.
 struct Mode {
+    table: Table,
     /// Whether the tag of the answer to a bad tag is asked for.
     asked: bool,
     /// The most bytes of a nonce or an HMAC.
@@ -33,10 +35,9 @@ struct Mode {
 
 /// The mode of a number; one that is none of a mode is refused before anything else.
 fn mode(by: u32, modes: &[u32]) -> Judged<Mode> {
-    if !modes.contains(&by) {
-        return Err(refusal(101, [0, by.into()]));
-    }
-    Ok(Mode { asked: by == STANDARD_BAD_TAG, longest: if by == RUST { u16::MAX } else { 64 } })
+    let (mode, table) = by::parts(by);
+    let table = by::table(table).filter(|_| modes.contains(&mode)).ok_or(refusal(101, [0, by.into()]))?;
+    Ok(Mode { table, asked: mode == STANDARD_BAD_TAG, longest: if mode == RUST { u16::MAX } else { 64 } })
 }
 
 /// What the two kinds of frame differ in.
@@ -58,7 +59,7 @@ pub fn command_write(by: u32, tag: u16, cc: u32, given: Handed, room: &mut [u8],
 }
 
 fn command(by: u32, tag: u16, cc: u32, given: &Handed) -> Judged<Shape> {
-    let longest = mode(by, READINGS)?.longest;
+    let Mode { table, longest, .. } = mode(by, READINGS)?;
     let n = given.sessions.count;
     if tag != PLAIN && tag != SESSIONS {
         return Err(refusal(3, [0, tag.into()]));
@@ -67,7 +68,7 @@ fn command(by: u32, tag: u16, cc: u32, given: &Handed) -> Judged<Shape> {
         return Err(refusal(3, [0, tag.into()]));
     }
     at_most_three(n)?;
-    Ok(Shape { tag, handles: row(cc)?.handles, width: 4, longest })
+    Ok(Shape { tag, handles: row(table, cc)?.handles, width: 4, longest })
 }
 
 pub fn response_write(by: u32, rc: u32, cc: u32, given: Handed, room: &mut [u8], out: &mut Out) -> u32 {
@@ -80,10 +81,10 @@ pub fn response_write(by: u32, rc: u32, cc: u32, given: Handed, room: &mut [u8],
 }
 
 fn response(by: u32, rc: u32, cc: u32, given: &Handed) -> Judged<Shape> {
-    let Mode { asked, longest } = mode(by, MODES)?;
+    let Mode { table, asked, longest } = mode(by, MODES)?;
     let n = given.sessions.count;
     at_most_three(n)?;
-    let handles = row(cc)?.responses;
+    let handles = row(table, cc)?.responses;
     let is_bad_tag = asked && rc == BAD_TAG;
     if !known::reads(rc) && !is_bad_tag {
         return Err(refusal(5, [0, rc.into()]));
@@ -106,8 +107,8 @@ fn at_most_three(n: usize) -> Judged<()> {
     if n > 3 { Err(Refusal(6, [0, 3, n as u64])) } else { Ok(()) }
 }
 
-fn row(cc: u32) -> Judged<Row> {
-    known::row(cc).ok_or(refusal(4, [0, cc.into()]))
+fn row(table: Table, cc: u32) -> Judged<Row> {
+    table.row(cc).ok_or(refusal(4, [0, cc.into()]))
 }
 
 /// From the handles on: the total that fits the room. The sum is of numbers wider than any length, so that it is true.

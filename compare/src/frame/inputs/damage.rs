@@ -1,34 +1,47 @@
 //! Good frames of every row, and real ones: changed in every byte, cut at every length, with bytes behind them, their
 //! fields set; and any bytes behind a good header.
 
+use crate::by::{CRATE_ALONE, TABLES};
 use crate::frame::call::{Kind, named};
 use crate::frame::desk::{Desk, Numbers};
-use crate::frame::known::{self, Row};
+use crate::frame::known::{self, Row, Table};
 use crate::frame::{make, real};
 use crate::random::Random;
 
+/// One of so many of any bytes is asked about at each table, the others at the crate's alone.
+const EACH_TABLE: usize = 64;
+
 pub fn each(desk: &mut Desk, random: &mut Random, thin: bool) {
     for row in known::rows() {
-        for count in [None, Some(0), Some(1), Some(2), Some(3), Some(4)] {
-            for kind in [Kind::Command, Kind::Response] {
-                let frame = good(kind, &row, count, random);
-                whole(desk, &frame, row.code, random);
-                for_others(desk, kind, &frame, thin);
-                changed(desk, kind, &frame, row.code, random, thin);
-                cut(desk, kind, &frame, row.code, random);
-                with_tail(desk, kind, &frame, row.code, random);
-            }
-        }
-        for _ in 0..if thin { 10 } else { 4_000 } {
+        of_row(desk, &row, random, thin);
+        for round in 0..if thin { 10 } else { 4_000 } {
+            desk.tables = if round % EACH_TABLE == 0 { &TABLES } else { CRATE_ALONE };
             anything(desk, &row, random);
         }
+        desk.tables = CRATE_ALONE;
     }
+    // the one row of a Library table that the crate's lacks
+    let row = Table::Lib159.row(0x197).expect("a row");
+    desk.at_each_table(|desk| of_row(desk, &row, random, true));
     for (command, response) in real::pairs() {
         let cc = real::code(&command);
         for (kind, frame) in [(Kind::Command, &command), (Kind::Response, &response)] {
             whole(desk, frame, cc, random);
             changed(desk, kind, frame, cc, random, thin);
             cut(desk, kind, frame, cc, random);
+        }
+    }
+}
+
+fn of_row(desk: &mut Desk, row: &Row, random: &mut Random, thin: bool) {
+    for count in [None, Some(0), Some(1), Some(2), Some(3), Some(4)] {
+        for kind in [Kind::Command, Kind::Response] {
+            let frame = good(kind, row, count, random);
+            whole(desk, &frame, row.code, random);
+            for_others(desk, kind, &frame, thin);
+            changed(desk, kind, &frame, row.code, random, thin);
+            cut(desk, kind, &frame, row.code, random);
+            with_tail(desk, kind, &frame, row.code, random);
         }
     }
 }

@@ -53,7 +53,7 @@ fn parts(s: &[u8], areas: [(usize, usize); 3], sessions: Sessions) -> calls::Fra
 
 fn command_read(by: u32, s: &[u8]) -> Read<calls::Frame> {
     let frame = command_judged(by, s, whole)?;
-    let (handles, from, to) = command_areas(frame)?;
+    let (handles, from, to) = command_areas(by, frame)?;
     let sessions = walk(reading(by)?, &frame[..to], from, true)?;
     Ok(parts(s, [(HEADER, handles), (from, to), (to, s.len())], sessions))
 }
@@ -61,7 +61,7 @@ fn command_read(by: u32, s: &[u8]) -> Read<calls::Frame> {
 /// The answer to a bad tag is an error response, whatever the command that has a row.
 fn response_read(by: u32, cc: u32, s: &[u8]) -> Read<calls::Frame> {
     response_judged(by, s, whole)?;
-    let row = row_of(Area::Header, cc)?;
+    let row = row_of(table_of(by)?, Area::Header, cc)?;
     if code_field(s) != 0 {
         return match (tag_field(s), s.len()) {
             (SESSIONS, _) => Err(refusal(Area::Header, 3, 0, SESSIONS)),

@@ -3,7 +3,7 @@
 //! nothing is judged.
 
 use super::super::Pair;
-use crate::frame::known;
+use crate::frame::known::Table;
 use crate::frame::make::SESSIONS;
 
 const FLUSH_CONTEXT: u32 = 0x165;
@@ -64,15 +64,15 @@ pub fn last_nonce<'a>(pairs: &[Read<'a>], handle: u32) -> Option<&'a [u8]> {
     })
 }
 
-/// Nothing of a command that is damaged.
-pub fn read((command, response): &Pair) -> Read<'_> {
-    read_pair(command, response).unwrap_or_default()
+/// Nothing of a command that is damaged, or that the table lacks.
+pub fn read(table: Table, (command, response): &Pair) -> Read<'_> {
+    read_pair(table, command, response).unwrap_or_default()
 }
 
-fn read_pair<'a>(command: &'a [u8], response: &'a [u8]) -> Option<Read<'a>> {
+fn read_pair<'a>(table: Table, command: &'a [u8], response: &'a [u8]) -> Option<Read<'a>> {
     let mut rest = Bytes(command);
     let (tag, _size, code) = (rest.number(2)?, rest.number(4)?, rest.number(4)?);
-    let row = known::row(code)?;
+    let row = table.row(code)?;
     rest.take(4 * row.handles)?;
     let size = if tag == SESSIONS.into() { rest.number(4)? } else { 0 };
     let (mut area, mut named) = (Bytes(rest.take(size as usize)?), Vec::new());

@@ -6,8 +6,10 @@ use crate::frame::known::{self, Row};
 use crate::random::Random;
 use crate::write::Desk;
 
-/// One round of so many is made in every mode, the others in the Rust's alone: most calls of the suite are made here.
+/// One round of so many is made in every mode, the others in the Rust's alone: most calls of the suite are made here. And one
+/// of so many is made at each table.
 const EVERY_MODE: usize = 4;
+const EACH_TABLE: usize = 32;
 
 pub fn each(desk: &mut Desk, pool: &Pool, random: &mut Random, rounds: usize) {
     let rows: Vec<Row> = known::rows().collect();
@@ -29,7 +31,12 @@ pub fn each(desk: &mut Desk, pool: &Pool, random: &mut Random, rounds: usize) {
         let lent = if round % 8_192 == 0 { 66_000 } else { 80 + random.number() as usize % 100 };
         pool.fill(&mut desk.case.lent, lent, random);
         desk.case.sessions = Sessions { count, three: [0, 1, 2].map(|at| session(at < count, lent, random)) };
-        in_rooms_by(desk, if round % EVERY_MODE == 0 { kind.modes() } else { &[RUST] });
+        let modes = if round % EVERY_MODE == 0 { kind.modes() } else { &[RUST] };
+        if round % EACH_TABLE == 0 {
+            desk.at_each_table(|desk| in_rooms_by(desk, modes));
+        } else {
+            in_rooms_by(desk, modes);
+        }
     }
 }
 
