@@ -245,6 +245,17 @@ module _ (book : Rulebook) where
       let found = signed-of s (readCommand book s) e in
       (found .0, found .1, command-division-fields s (found .0) (found .1) .0, found .2)
 
+  -- its code has a row, and the row's handles are the area
+  pub command-row : (s : List ℕ) (c : Command) → commandByValue s (readCommand book s) ≡ gives c
+      → (row : Row) × (rowFor (book .rows) (c .cc .0) ≡ gives row) × (c .handles .to ≡ 10 + 4 * row .handles)
+  command-row s c e =
+      let read = then-gives (readCommand book s) _ e in
+      let d : Division = read .0 in
+      let t = steps-taken s d (read .1) in
+      let same : d .areas .handles ≡ 10 + 4 * t .row .handles =
+      sized-order Authorization (eqb (tagOf s) sessions) (10 + 4 * t .row .handles) (10 + 4 * t .row .handles) s (omega arith) (t .room) (t .sized) .0 in
+      rw (← gives-injective (read .2)) (t .row, t .has-row, same)
+
   -- the three reads of one area give the areas of a passing command
   pub command-ranges : (s : List ℕ) (c : Command) → commandByValue s (readCommand book s) ≡ gives c
       → (handlesRange book s ≡ gives (ranged (c .handles)))

@@ -270,6 +270,10 @@ module _ (book : Rulebook) (cc : ℕ) where
         let ten = t .ten in
         omega arith
 
+  -- the command has a row
+  pub response-row : (s : List ℕ) (d : Division) → readResponse book cc s ≡ gives d → (row : Row) × (rowFor (book .rows) cc ≡ gives row)
+  response-row s d e = let t = steps-taken s d e in (t .row, t .has-row)
+
   -- what is given back as the authorization area is the layout of the entries
   pub response-auth : (s : List ℕ) → AreBytes s → (r : Response) → responseByValue s (readResponse book cc s) ≡ gives r
       → heldAt (r .auth) s ≡ layoutEntries 0 (responseParts s r .entries)

@@ -6,7 +6,7 @@
 use mathlib.Core.Path.{_≡_, refl, sym, _∙_, ap}
 use mathlib.Core.Bool.{Bool, true, false}
 use mathlib.Core.List.{List, [], _∷_, _++_}
-use Prim.Native.Nat.{ℕ, _+_, _-_, _≤_, _<_}
+use Prim.Native.Nat.{ℕ, _+_, _-_, _*_, _≤_, _<_}
 use native.Mathlib.Omega.{arith}
 use borrow.Author.Tests.{leb-true}
 use denote.Ref.{now}
@@ -19,9 +19,10 @@ use Rattle.base.specs.Members.{isIn}
 use Rattle.base.specs.Parts.{upTo}
 use Rattle.base.specs.declared.error.Area.the-variants.{Header}
 use Rattle.base.specs.Field.{laid}
-use Rattle.base.specs.Said.{inArea, gives, refuses, after, done, given, within}
+use Rattle.base.specs.declared.answer.Outcome.the-variants as outcome
+use Rattle.base.specs.Said.{inArea, Said, gives, refuses, after, done, given, within}
 use Rattle.base.proofs.Bytes.{length-bytes, number-bytes}
-use Rattle.base.proofs.Checks.{needs-gives, then-gives, gives-injective, within-gives}
+use Rattle.base.proofs.Checks.{gives≢refuses, needs-gives, then-gives, gives-injective, within-gives}
 use Rattle.base.proofs.Laid.{laid-there, length-laid}
 use Rattle.base.proofs.Places.{read-within}
 use Rattle.table.specs.declared.revision.Revision.{Revision}
@@ -33,6 +34,8 @@ use Rattle.table.specs.Tags.{tags}
 use Rattle.table.proofs.Revisions.{same-row, stands-alike, from-138}
 use Rattle.table.proofs.Rows.{row-given, row-known}
 use Rattle.table.proofs.Table.{is-table}
+use Rattle.frame.specs.declared.command.Command.{Command}
+use Rattle.frame.specs.declared.command.CommandRead.the-variants as command
 use Rattle.frame.specs.declared.rules.Reading.{Reading}
 use Rattle.frame.specs.declared.rules.Reading.the-variants as reading
 use Rattle.frame.specs.declared.rules.Rules.{Rules}
@@ -42,9 +45,11 @@ use Rattle.frame.specs.Command.{commandHandles, commandAreas, judgeComma
 use Rattle.frame.specs.Header.{tagOf, sizeOf, codeOf, readCc, readRc, setCc, setRc, framePrefix, frameWhole, readCommandTag, readResponseTag}
 use Rattle.frame.specs.Response.{judgeResponse, castResponse, castResponsePrefix, errorAreas, responseAreas, readResponse}
 use Rattle.frame.specs.Rules.{Rulebook, bookAt, bookOf}
+use Rattle.frame.proofs.CommandLaws.{command-row}
 use Rattle.frame.proofs.Headers.{prefix-fits}
 use Rattle.frame.proofs.Laws.{Promised}
 use Rattle.frame.proofs.Limits.{same-then}
+use Rattle.frame.proofs.ResponseLaws.{response-row}
 use Rattle.frame.proofs.command.cc.Kinds as command-cc-kinds
 use Rattle.frame.proofs.command.cc.Reads as command-cc-reads
 use Rattle.frame.proofs.command.set_cc.Kinds as command-set-cc-kinds
@@ -257,6 +262,37 @@ pub response-sessions : Promised 1 response-sessions-kinds.ps response-sessions-
     (λ κs a x later. (other : Revision) → Stands (a .0) other (a .1 .0 .0)
     → saidResponseSessions x ≡ signed (now (a .1 .1 .0)) (readResponse (bookOf (at other (a .0))) (a .1 .0 .0) (now (a .1 .1 .0))))
 response-sessions κs a x v met other same = met ∙ ap (signed (now (a .1 .1 .0))) (named-response (a .0) other (a .1 .0 .0) (now (a .1 .1 .0)) same)
+
+-- ---- what callers are answered by a table is of that table: what passes, and a code that is set, has a row in the table that was named, and the handles of a command
+-- are as many as it says
+
+made : {A : Type 0} (said : Said A) → done said ≡ gives tt → (a : A) × (said ≡ gives a)
+made (gives a) e = (a, refl)
+made (refuses why) e = absurd (gives≢refuses (sym e))
+
+abbrev HasRow : Revision → ℕ → Type 0
+HasRow by code = (row : Row) × (rowFor (tableOf by) code ≡ gives row)
+
+pub command-parts-row : Promised 1 command-parts-kinds.ps command-parts-kinds.r command-parts-reads.Post
+    (λ κs a x later. (c : Command) → x ≡ command.Is c
+    → (row : Row) × (rowFor (tableOf (a .0 .revision)) (c .cc .0) ≡ gives row) × (c .handles .to ≡ 10 + 4 * row .handles))
+command-parts-row κs a x v met c is = command-row (bookOf (a .0)) (now (a .1 .0)) c (sym met ∙ ap saidCommand is)
+
+pub response-validate-row : Promised 1 response-validate-kinds.ps response-validate-kinds.r response-validate-reads.Post
+    (λ κs a x later. x ≡ outcome.Done → HasRow (a .0 .revision) (a .1 .0 .0))
+response-validate-row κs a x v met is =
+    let read = made (readResponse (bookOf (a .0)) (a .1 .0 .0) (now (a .1 .1 .0))) (sym met ∙ ap saidOutcome is) in
+    response-row (bookOf (a .0)) (a .1 .0 .0) (now (a .1 .1 .0)) (read .0) (read .1)
+
+pub command-set-cc-row : Promised 1 command-set-cc-kinds.ps command-set-cc-kinds.r command-set-cc-reads.Post
+    (λ κs a x later. x ≡ outcome.Done → HasRow (a .0 .revision) (a .1 .1 .0 .0))
+unfolding setCc
+command-set-cc-row κs a x v met is =
+    let code : ℕ = a .1 .1 .0 .0 in
+    let s : List ℕ = now (a .1 .0) in
+    let set = made (setCc (bookOf (a .0)) code s) (sym (met .0) ∙ ap saidOutcome is) in
+    let found = then-gives (within Header (rowFor (tableOf (a .0 .revision)) code)) _ (needs-gives (leb 10 (length s)) _ _ (set .1) .1) in
+    (found .0, within-gives Header (rowFor (tableOf (a .0 .revision)) code) (found .1))
 
 -- ---- more codes may be known than have a row: revision 1.38's rows with the crate's codes are a table too, and by them TPM2_ECC_Encrypt, which is known and
 -- has no row, is 4(0,code) in a command, and TPM2_CertifyX509, which is not known, 4(6,code)

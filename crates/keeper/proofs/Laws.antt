@@ -23,9 +23,11 @@ use Rattle.frame.specs.Response.{readResponse}
 use Rattle.frame.specs.Walk as walked
 use Rattle.table.specs.declared.revision.Revision.{Revision}
 use Rattle.table.specs.Dispatch.{tableOf}
-use Rattle.table.specs.Table.{Alike}
+use Rattle.table.specs.Table.{rowFor, Alike}
+use Rattle.table.specs.declared.row.Row.{Row}
 use Rattle.table.proofs.Table.{is-table}
 use Rattle.frame.specs.declared.rules.Reading.the-variants as reading
+use Rattle.frame.proofs.ResponseLaws.{response-row}
 use Rattle.frame.proofs.Revisions.{same-command, same-response}
 use Rattle.keeper.specs.Keeper.{Open, session, alreadyOpen, allOpen, isOpen, asked, opened, closed, standard, Exchange, exchange, isNamed, repeated, moves, settling, moving, moved, answered}
 use Rattle.keeper.specs.State.{countOf, held, placeOf, put, shifted, openedIn, closedIn, movedIn, answeredIn, bytesOf}
@@ -286,7 +288,20 @@ module _ (handle : ℕ) (nonce : List ℕ) (xs : List Open) where
   pub opens-exactly : (opened handle nonce xs ≡ gives (session handle nonce ∷ xs)) ↔ ((isOpen handle xs ≡ false) × (length nonce ≤ 64) × (length xs < 64))
   opens-exactly = (opens-only, opens-where)
 
--- ---- two tables in which the command's code stands with equal counts (document 02, W10): an answer is judged the same, and moves the same
+-- ---- an answer that is accepted at a table is to a command of that table (document 02, W10)
+
+pub accepted-row : (table : Revision) (command response : List ℕ) (xs : List Open) → says (answering table command response) xs ≡ gives []
+    → (row : Row) × (rowFor (tableOf table) (codeOf command) ≡ gives row)
+unfolding answered moving exchange
+accepted-row table command response xs e =
+    let done = then-gives (answered table command response xs) _ e in
+    let made = then-gives (moving table command response xs) _ (done .1) in
+    let both = then-gives (exchange table command response) _ (made .1) in
+    let first = then-gives (readCommand (standard table) command) _ (both .1) in
+    let second = then-gives (readResponse (standard table) (codeOf command) response) _ (first .2) in
+    response-row (standard table) (codeOf command) response (second .0) (second .1)
+
+-- ---- two tables in which the command's code stands with equal counts: an answer is judged the same, and moves the same
 
 module _ (table other : Revision) (command response : List ℕ) (same : Alike (tableOf table) (tableOf other) (codeOf command)) where
   same-exchange : exchange table command response ≡ exchange other command response
