@@ -30,7 +30,8 @@ shared =
     row 0x186 0 1 ∷ row 0x187 1 0 ∷ row 0x188 1 0 ∷ row 0x189 1 0 ∷ row 0x18a 0 0 ∷ row 0x18b 1 0 ∷ row 0x18c 1 0 ∷
     row 0x18d 1 0 ∷ row 0x18e 0 0 ∷ row 0x18f 1 0 ∷ row 0x190 1 0 ∷ row 0x191 1 1 ∷ row 0x192 3 0 ∷ row 0x193 1 0 ∷ []
 
--- two that the crate and revision 1.59 share: TPM2_AC_GetCapability, TPM2_AC_Send and TPM2_Policy_AC_SendSelect; and TPM2_ACT_SetTimeout
+-- what the crate and revision 1.59 share behind them: TPM2_AC_GetCapability, TPM2_AC_Send and TPM2_Policy_AC_SendSelect before other rows, and
+-- TPM2_ACT_SetTimeout
 abbrev attached : List Row → List Row
 attached rows = row 0x194 1 0 ∷ row 0x195 3 0 ∷ row 0x196 1 0 ∷ rows
 
@@ -58,7 +59,7 @@ tableOf revision = shared ++ own revision
 abbrev pub codesOf : Revision → List ℕ
 codesOf revision = codes (tableOf revision)
 
--- ---- which table it is
+-- ---- which table it is, for the search
 
 abbrev pub isCrate : Revision → Bool
 isCrate revision.Crate = true
