@@ -61,5 +61,5 @@ TiesAt {𝓤 = 𝓤} 𝓛 κs p s r = all 𝓤 (λ (last : List ℕ). all 𝓤 (
     wand 𝓤 (sep 𝓤 (sem 𝓛 (finally u8 r.ghost_name last)) (𝓛.A.lft κs.0 q))
     (𝓛.H.⇛ (sep 𝓤 (sem 𝓛 (finally u8 s.ghost_name (put_at p last s.now))) (𝓛.A.lft κs.0 q)))))
 
-abbrev pub Ties : {M : Type 1} {𝓤 : Ura M} (𝓛 : Logic 𝓤) → Lfts 1 → Said Part → Bor (List ℕ) → Bor (List ℕ) → SProp 𝓤
+abbrev pub Ties : {M : Type 1} {𝓤 : Ura M} (𝓛 : Logic 𝓤) → Lfts 1 → Said Part → MutBor (List ℕ) → MutBor (List ℕ) → SProp 𝓤
 Ties 𝓛 κs range s r = TiesAt 𝓛 κs (placed range (length s.now)) s r

@@ -58,7 +58,7 @@ pub fn part(s: &[u8], range: Range) -> &[u8]
 
 // The same as a part that can be written to. The signature's only lifetime has no name in a clause, and is found.
 pub fn part_mut(s: &mut [u8], range: Range) -> &mut [u8]
-    ensures* { Ties 𝓛 (search rules) (said_range range) s.entry result ∗ ⌜ IsPart (said_range range) s.entry result ⌝ }
+    ensures* { Ties 𝓛 κs (said_range range) s.entry result ∗ ⌜ IsPart (said_range range) s.entry result ⌝ }
 {
     let at = placed(range, s.len());
     let from = at.from;

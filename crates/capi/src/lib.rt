@@ -3,6 +3,8 @@
 // refusal's number comes out (0: an answer). An answer's numbers go to the places 0 to 3 of the array, a refusal's
 // fields, in document 01's order, to the places from 4 on; no other place changes. All parts of a frame come out by
 // value, behind that number; what they tell of sessions goes into the writers as it is.
+#![tactic(auto)]
+
 pub mod array;
 pub mod buffer1024;
 pub mod buffer64;

@@ -1,4 +1,6 @@
 // Whole command and response frames: read, checked and divided, over the caller's bytes.
+#![tactic(auto)]
+
 pub mod areas;
 pub mod command;
 pub mod header;

@@ -9,6 +9,8 @@
 // is. A question mark stands behind a line that calls nothing: it has another form, 16,384 bytes or more, no such
 // call, or a number that does not fit it. What the program must write, crates/worked/stdout, is document 01's, 02's
 // and the Rust's word.
+#![tactic(auto)]
+
 mod calls;
 mod frames;
 mod lines;

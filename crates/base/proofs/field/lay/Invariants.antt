@@ -1,0 +1,15 @@
+use Prim.Native.Nat.{◌+◌, ◌-◌, ◌≤◌}
+use mathlib.Core.Path.{◌≡◌, refl, ap, ◌∙◌}
+use native.Mathlib.Omega.{arith}
+use native.Mathlib.Numerals.{add-one}
+use lib.ListN.{length, get_or, length-set}
+use lib.Seq.{paste, paste-zero, paste-suc}
+use Rattle.base.proofs.Lists.{pasted}
+use Rattle.std.proofs.Common.{rules}
+use Rattle.base.proofs.field.lay.Given as goal
+
+abbrev pub invariant-loop-i : goal.invariant-loop-i
+invariant-loop-i l = (l.i ≤ length l.t) × (length l.s ≡ length l.initial.s) × (l.s ≡ paste l.initial.s l.place l.t l.i)
+
+abbrev pub decreases-loop-i : goal.decreases-loop-i
+decreases-loop-i l = length l.t - l.i
