@@ -7,15 +7,15 @@ ghost use Rattle.base.specs.Said.{in_area};
 use crate::error::{Area, TpmError};
 
 #[repr(C)]
-#[derive(Drop)]
+#[derive(Clone, Copy)]
 pub struct TpmSt(pub u16);
 
 #[repr(C)]
-#[derive(Drop)]
+#[derive(Clone, Copy)]
 pub struct TpmCc(pub u32);
 
 #[repr(C)]
-#[derive(Drop)]
+#[derive(Clone, Copy)]
 pub struct TpmRc(pub u32);
 
 impl TpmSt {

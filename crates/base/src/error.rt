@@ -4,7 +4,7 @@ ghost use Rattle.std.specs.Prelude.{◌≡◌};
 ghost use Rattle.base.specs.Error.{area_number};
 
 // The area of a frame; none for a writer and for a call that has no frame.
-#[derive(Drop)]
+#[derive(Clone, Copy)]
 pub enum Area {
     None,
     Header,
@@ -29,7 +29,7 @@ impl Area {
 }
 
 // The eight that readers, setters, buffers and writers share.
-#[derive(Drop)]
+#[derive(Clone, Copy)]
 pub enum TpmError {
     UnexpectedEnd {
         area: Area,
@@ -78,7 +78,7 @@ pub enum TpmError {
 }
 
 // What a writer refuses with: one of those, or a total that its field cannot hold.
-#[derive(Drop)]
+#[derive(Clone, Copy)]
 pub enum WriteError {
     Common(TpmError),
     IntegerTooLarge { offset: usize, value: u64 },

@@ -8,7 +8,7 @@ use crate::answer::Range;
 
 // A part by its start and its end.
 #[repr(C)]
-#[derive(Drop)]
+#[derive(Clone, Copy)]
 pub struct Span {
     pub from: usize,
     pub to: usize,

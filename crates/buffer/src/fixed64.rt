@@ -11,21 +11,21 @@ use base::answer::{Count, Flag, Outcome};
 
 pub type Room = [u8; 64];
 
-#[derive(Drop)]
+#[derive(Clone, Copy)]
 pub struct TpmBuffer64 {
     pub size: u16,
     pub data: Room,
 }
 
 // A buffer beside the answer: the new one, or where refused the one that was there.
-#[derive(Drop)]
+#[derive(Clone, Copy)]
 pub struct Extended64 {
     pub answer: Outcome,
     pub buffer: TpmBuffer64,
 }
 
 // What was read, with the bytes that it took: the buffer, or where refused a new one.
-#[derive(Drop)]
+#[derive(Clone, Copy)]
 pub struct Unmarshalled64 {
     pub answer: Count,
     pub buffer: TpmBuffer64,

@@ -103,7 +103,7 @@ pub extern "C" fn skein_command_set_cc(rules: u32, cc: u32, s: &mut [u8], out: &
 
 // All parts by value, behind the number that the other calls return; the array takes a refusal's fields alone.
 #[repr(C)]
-#[derive(Drop)]
+#[derive(Clone, Copy)]
 pub struct CommandParts {
     pub refusal: u32,
     pub command: Command,

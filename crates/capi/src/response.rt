@@ -80,7 +80,7 @@ pub extern "C" fn skein_response_body(s: &[u8], out: &mut Numbers) -> u32
 
 // All parts of a response to the command cc, by value as of a command.
 #[repr(C)]
-#[derive(Drop)]
+#[derive(Clone, Copy)]
 pub struct ResponseParts {
     pub refusal: u32,
     pub response: Response,

@@ -9,7 +9,7 @@ use table::revision::Revision;
 // The refusal of a number that names none: its number is this crate's own.
 pub(crate) const UNKNOWN: u32 = 101;
 
-#[derive(Drop)]
+#[derive(Clone, Copy)]
 pub(crate) enum NamedRevision {
     Is(Revision),
     Unknown(u32),
@@ -37,7 +37,7 @@ pub(crate) fn revision_named(number: u32) -> NamedRevision
     NamedRevision::Unknown(number)
 }
 
-#[derive(Drop)]
+#[derive(Clone, Copy)]
 pub(crate) enum Named {
     Is(Rules),
     Unknown(u32),
@@ -63,7 +63,7 @@ pub(crate) fn rules_named(number: u32) -> Named
     }
 }
 
-#[derive(Drop)]
+#[derive(Clone, Copy)]
 pub(crate) enum NamedMode {
     Is(ResponseRules),
     Unknown(u32),

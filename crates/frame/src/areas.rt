@@ -10,14 +10,14 @@ use base::error::{Area, TpmError};
 use base::field::{left, read_u32};
 
 // Where the handles end, where the sized bytes start and where they end; the rest goes on to the frame's end.
-#[derive(Drop)]
+#[derive(Clone, Copy)]
 pub(crate) struct Areas {
     pub(crate) handles: usize,
     pub(crate) from: usize,
     pub(crate) to: usize,
 }
 
-#[derive(Drop)]
+#[derive(Clone, Copy)]
 pub(crate) enum Divided {
     Is(Areas),
     Refused(TpmError),

@@ -25,7 +25,7 @@ use table::tag::tag_known;
 
 // A passing command by value: its areas by where they stand, its entries by their count and the first three.
 #[repr(C)]
-#[derive(Drop)]
+#[derive(Clone, Copy)]
 pub struct Command {
     pub tag: TpmSt,
     pub cc: TpmCc,
@@ -35,14 +35,14 @@ pub struct Command {
     pub entries: Entries,
 }
 
-#[derive(Drop)]
+#[derive(Clone, Copy)]
 pub enum CommandRead {
     Is(Command),
     Refused(TpmError),
 }
 
 // What a passing command says of sessions: its code, and its entries.
-#[derive(Drop)]
+#[derive(Clone, Copy)]
 pub enum CommandSessions {
     Is { cc: TpmCc, entries: Entries },
     Refused(TpmError),

@@ -28,7 +28,7 @@ use table::row::Found;
 
 // A passing response by value: its areas by where they stand, its entries by their count and the first three.
 #[repr(C)]
-#[derive(Drop)]
+#[derive(Clone, Copy)]
 pub struct Response {
     pub tag: TpmSt,
     pub rc: TpmRc,
@@ -38,14 +38,14 @@ pub struct Response {
     pub entries: Entries,
 }
 
-#[derive(Drop)]
+#[derive(Clone, Copy)]
 pub enum ResponseRead {
     Is(Response),
     Refused(TpmError),
 }
 
 // What a passing response says of sessions: its code, and its entries.
-#[derive(Drop)]
+#[derive(Clone, Copy)]
 pub enum ResponseSessions {
     Is { rc: TpmRc, entries: Entries },
     Refused(TpmError),

@@ -5,14 +5,14 @@ ghost use Rattle.frame.specs.Rules.{book_of};
 use table::revision::Revision;
 
 // The Rust's reading, or the standard one, which knows the answer to a bad tag and how long a nonce or an HMAC can be.
-#[derive(Drop)]
+#[derive(Clone, Copy)]
 pub enum Reading {
     Rust,
     Standard,
 }
 
 // Every call that judges a frame takes one: the reading, and the table of commands.
-#[derive(Drop)]
+#[derive(Clone, Copy)]
 pub struct Rules {
     pub reading: Reading,
     pub revision: Revision,

@@ -7,7 +7,7 @@ pub const MAX_SESSIONS: usize = 3;
 
 // Bytes by their place and their count.
 #[repr(C)]
-#[derive(Drop)]
+#[derive(Clone, Copy)]
 pub struct Field {
     pub at: usize,
     pub size: u16,
@@ -15,7 +15,7 @@ pub struct Field {
 
 // An entry of a command; an entry of a response has no handle, and 0 stands there.
 #[repr(C)]
-#[derive(Drop)]
+#[derive(Clone, Copy)]
 pub struct Session {
     pub handle: u32,
     pub nonce: Field,
@@ -38,7 +38,7 @@ impl Session {
 
 // How many entries an area has, and the first three.
 #[repr(C)]
-#[derive(Drop)]
+#[derive(Clone, Copy)]
 pub struct Entries {
     pub count: usize,
     pub first: Session,

@@ -1,7 +1,7 @@
 // What the keeper refuses: a frame, by the frame's own refusal, and what document 02 (W8) adds to it, without fields.
 use base::error::TpmError;
 
-#[derive(Drop)]
+#[derive(Clone, Copy)]
 pub enum Refusal {
     Frame(TpmError),
     HandleRepeated,
@@ -11,14 +11,14 @@ pub enum Refusal {
     NotOpen,
 }
 
-#[derive(Drop)]
+#[derive(Clone, Copy)]
 pub enum Outcome {
     Done,
     Refused(Refusal),
 }
 
 // The nonce of a session: a part of the keeper's own bytes, by its start and its end.
-#[derive(Drop)]
+#[derive(Clone, Copy)]
 pub enum Asked {
     Is { from: usize, to: usize },
     Refused(Refusal),

@@ -6,7 +6,7 @@ ghost use Rattle.marshal.specs.Mode.{asked, reading_of, rules_for};
 use frame::rules::{Reading, Rules};
 use table::revision::Revision;
 
-#[derive(Drop)]
+#[derive(Clone, Copy)]
 pub enum Mode {
     Rust,
     Standard,
@@ -14,7 +14,7 @@ pub enum Mode {
 }
 
 // Of the writer of responses: the mode, and the table of commands.
-#[derive(Drop)]
+#[derive(Clone, Copy)]
 pub struct ResponseRules {
     pub mode: Mode,
     pub revision: Revision,

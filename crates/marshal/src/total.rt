@@ -58,7 +58,7 @@ pub(crate) fn too_many(count: usize) -> TpmError
 }
 
 // What was found of the sessions: all that they name, or the first nonce or HMAC that cannot be taken.
-#[derive(Drop)]
+#[derive(Clone, Copy)]
 pub(crate) enum Looked {
     All,
     Missing { at: usize, size: usize },

@@ -7,12 +7,12 @@ use base::code::TpmRc;
 use base::error::{Area, TpmError};
 
 // A base code. Reading gives known ones alone.
-#[derive(Drop)]
+#[derive(Clone, Copy)]
 pub struct TpmRcBase(pub u32);
 
 // What a response code says: format zero, an error or a warning; or format one, of no part, or of the parameter,
 // handle or session of a number.
-#[derive(Drop)]
+#[derive(Clone, Copy)]
 pub enum Code {
     Fmt0(TpmRcBase),
     Warn(TpmRcBase),
@@ -23,7 +23,7 @@ pub enum Code {
 }
 
 // The kinds of codes, in the order of the variants of Code.
-#[derive(Drop)]
+#[derive(Clone, Copy)]
 pub enum Kind {
     Fmt0,
     Warn,
@@ -33,7 +33,7 @@ pub enum Kind {
     Session,
 }
 
-#[derive(Drop)]
+#[derive(Clone, Copy)]
 pub enum Answer {
     Code(Code),
     Refused(TpmError),

@@ -12,7 +12,7 @@ use base::error::Area;
 
 // Where a search begins: the row of its code stands from lo to before hi, if anywhere, and is looked for at a place between them
 // first. That is as far from the table's first row as the code is from the first code, less the codes on the way that are left out.
-#[derive(Drop)]
+#[derive(Clone, Copy)]
 struct Start {
     lo: usize,
     hi: usize,

@@ -1,5 +1,5 @@
 // Which table of commands a caller names: the crate's, or that of a revision of the Library.
-#[derive(Drop)]
+#[derive(Clone, Copy)]
 pub enum Revision {
     Crate,
     Lib138,

@@ -2,14 +2,14 @@
 use base::error::TpmError;
 
 // A command's code, its handles and the handles of its response.
-#[derive(Drop)]
+#[derive(Clone, Copy)]
 pub struct Row {
     pub code: u32,
     pub handles: u8,
     pub responses: u8,
 }
 
-#[derive(Drop)]
+#[derive(Clone, Copy)]
 pub enum Found {
     Is(Row),
     Refused(TpmError),

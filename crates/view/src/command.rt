@@ -12,7 +12,7 @@ ghost use Rattle.frame.specs.Rules.{book_of};
 use base::answer::{CommandCode, Number32, Outcome, Tag};
 use frame::rules::Rules;
 
-#[derive(Drop)]
+#[derive(Clone, Copy)]
 pub struct TpmCommand<'a> {
     frame: &'a [u8],
     rules: Rules,

@@ -14,7 +14,7 @@ use base::answer::{Number32, Outcome, ResponseCode, Tag};
 use base::code::TpmCc;
 use frame::rules::Rules;
 
-#[derive(Drop)]
+#[derive(Clone, Copy)]
 pub struct TpmResponse<'a> {
     frame: &'a [u8],
     rules: Rules,

@@ -5,7 +5,7 @@ use crate::calls;
 use keeper::state::State;
 
 // The line that is coming in: how many of its bytes stand in the room, and whether others were written before them.
-#[derive(Drop)]
+#[derive(Clone, Copy)]
 struct Coming {
     pub len: usize,
     pub long: bool,

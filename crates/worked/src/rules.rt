@@ -4,7 +4,7 @@ use frame::rules::{Reading, Rules};
 use table::revision::Revision;
 
 // Whether there is nothing else, and the number that C has for them.
-#[derive(Drop)]
+#[derive(Clone, Copy)]
 pub(crate) struct Named {
     pub good: bool,
     pub number: u32,

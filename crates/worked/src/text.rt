@@ -3,7 +3,7 @@ ghost use Rattle.std.specs.Prelude.{◌≡◌, ◌≤◌, length};
 ghost use Rattle.io.specs.Counts.{IsPrefixLen};
 
 // Whether a word spells what is asked for, and the number, or how many bytes.
-#[derive(Drop)]
+#[derive(Clone, Copy)]
 pub(crate) struct Spelt {
     pub good: bool,
     pub number: usize,

@@ -1,7 +1,7 @@
 // What is to be written of a call.
 
 // Whether there is such a call; what it returned; how many numbers an answer of it has; whether it writes bytes.
-#[derive(Drop)]
+#[derive(Clone, Copy)]
 pub(crate) struct Told {
     pub known: bool,
     pub number: u32,
