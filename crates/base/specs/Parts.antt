@@ -4,7 +4,8 @@
 use Rattle.std.specs.Prelude.{ℕ, ◌+◌, ◌-◌, Bool, ◌&&◌, cond, List, ◌++◌, ◌≡◌, leb, length, take, drop}
 use seplogic.Ra.Ura.{Ura}
 use base.Logic.{SProp, sep, wand, all}
-use Rattle.std.specs.Borrow.{Share, u8, Bor, MutBor}
+use Rattle.std.specs.Borrow.{Share, u8, Bor, MutBor, Fml, Array, Lends}
+use denote.Ref.{as_bor}
 use contract.Lifetimes.{Lfts}
 use types.Logic.{Logic, sem}
 use denote.Slice.{finally}
@@ -53,6 +54,9 @@ IsAt p s r = (r.now ≡ held_at p s.now) × (r.ref_ptr.0 ≡ s.ref_ptr.0) × (r.
 abbrev pub IsPart : Said Part → Bor (List ℕ) → Bor (List ℕ) → Type 0
 IsPart range s r = IsAt (placed range (length s.now)) s r
 
+abbrev pub IsPartMut : Said Part → MutBor (List ℕ) → MutBor (List ℕ) → Type 0
+IsPartMut range s r = IsPart range (as_bor s) (as_bor r)
+
 -- Once the last bytes of the part r are known, so are those of s: as they were at entry, with these in the part's place. So a call
 -- that gives r back has changed no byte, and one that is refused leaves nothing to write to. Whoever asks shows a share of the token of the
 -- signature's one lifetime, and has it back.
@@ -63,3 +67,11 @@ TiesAt {𝓤 = 𝓤} 𝓛 κs p s r = all 𝓤 (λ (last : List ℕ). all 𝓤 (
 
 abbrev pub Ties : {M : Type 1} {𝓤 : Ura M} (𝓛 : Logic 𝓤) → Lfts 1 → Said Part → MutBor (List ℕ) → MutBor (List ℕ) → SProp 𝓤
 Ties 𝓛 κs range s r = TiesAt 𝓛 κs (placed range (length s.now)) s r
+
+-- The same in the library's words, and stronger: whoever learns what the part r holds last learns what s holds last, with no token shown
+-- and at once (proofs/Lending.antt, `ties`).
+abbrev pub LendsAt : Span → MutBor (List ℕ) → MutBor (List ℕ) → Fml
+LendsAt p s r = Lends (Array u8 0) (Array u8 0) s r (λ last. put_at p last s.now)
+
+abbrev pub LendsPart : Said Part → MutBor (List ℕ) → MutBor (List ℕ) → Fml
+LendsPart range s r = LendsAt (placed range (length s.now)) s r

@@ -1,8 +1,8 @@
 // Parts of lent bytes by a range that was read. Where the range is refused the part is empty, and the read says why.
 ghost use Rattle.std.specs.Prelude.{◌≡◌, ◌&&◌, leb};
-ghost use Rattle.std.proofs.Common.{rules};
+ghost use Rattle.std.specs.Borrow.{sem};
 ghost use Rattle.base.specs.Answer.{said_range};
-ghost use Rattle.base.specs.Parts.{IsPart, Ties, behind, placed};
+ghost use Rattle.base.specs.Parts.{IsPart, IsPartMut, LendsPart, behind, placed};
 
 use crate::answer::Range;
 
@@ -56,9 +56,10 @@ pub fn part(s: &[u8], range: Range) -> &[u8]
     &s[from..to]
 }
 
-// The same as a part that can be written to. The signature's only lifetime has no name in a clause, and is found.
+// The same as a part that can be written to. Once its last bytes are known, so are those of the slice.
 pub fn part_mut(s: &mut [u8], range: Range) -> &mut [u8]
-    ensures* { Ties 𝓛 κs (said_range range) s.entry result ∗ ⌜ IsPart (said_range range) s.entry result ⌝ }
+    ensures* writes_back { sem 𝓛 (LendsPart (said_range range) s.entry result) }
+    ensures part { IsPartMut (said_range range) s.entry result }
 {
     let at = placed(range, s.len());
     let from = at.from;

@@ -1,9 +1,9 @@
 // The TPM2B view, over the caller's bytes. A capacity is the most bytes that a size may tell of. A range read says what is refused and
 // why; the part read of the same name is then empty.
 ghost use Rattle.std.specs.Prelude.{◌≡◌, length};
-ghost use Rattle.std.proofs.Common.{rules};
+ghost use Rattle.std.specs.Borrow.{sem};
 ghost use Rattle.base.specs.Answer.{said_count, said_flag, said_outcome, said_range};
-ghost use Rattle.base.specs.Parts.{IsPart, Ties, behind, up_to};
+ghost use Rattle.base.specs.Parts.{IsPart, IsPartMut, LendsPart, behind, up_to};
 ghost use Rattle.base.specs.Said.{done};
 ghost use Rattle.buffer.specs.View.{data_range, is_empty, prefix, read_size, whole};
 
@@ -148,28 +148,32 @@ pub fn data(s: &[u8]) -> &[u8]
 }
 
 pub fn cast_mut(capacity: usize, s: &mut [u8]) -> &mut [u8]
-    ensures* { Ties 𝓛 (search rules) (up_to (whole capacity s.old)) s.entry result ∗ ⌜ IsPart (up_to (whole capacity s.old)) s.entry result ⌝ }
+    ensures* writes_back { sem 𝓛 (LendsPart (up_to (whole capacity s.old)) s.entry result) }
+    ensures part { IsPartMut (up_to (whole capacity s.old)) s.entry result }
 {
     let range = cast_range(capacity, s);
     part_mut(s, range)
 }
 
 pub fn cast_prefix_mut(capacity: usize, s: &mut [u8]) -> &mut [u8]
-    ensures* { Ties 𝓛 (search rules) (up_to (prefix capacity s.old)) s.entry result ∗ ⌜ IsPart (up_to (prefix capacity s.old)) s.entry result ⌝ }
+    ensures* writes_back { sem 𝓛 (LendsPart (up_to (prefix capacity s.old)) s.entry result) }
+    ensures part { IsPartMut (up_to (prefix capacity s.old)) s.entry result }
 {
     let range = cast_prefix_range(capacity, s);
     part_mut(s, range)
 }
 
 pub fn cast_prefix_tail_mut(capacity: usize, s: &mut [u8]) -> &mut [u8]
-    ensures* { Ties 𝓛 (search rules) (behind (up_to (prefix capacity s.old)) (length s.old)) s.entry result ∗ ⌜ IsPart (behind (up_to (prefix capacity s.old)) (length s.old)) s.entry result ⌝ }
+    ensures* writes_back { sem 𝓛 (LendsPart (behind (up_to (prefix capacity s.old)) (length s.old)) s.entry result) }
+    ensures part { IsPartMut (behind (up_to (prefix capacity s.old)) (length s.old)) s.entry result }
 {
     let range = prefix_tail_range(capacity, s);
     part_mut(s, range)
 }
 
 pub fn data_mut(s: &mut [u8]) -> &mut [u8]
-    ensures* { Ties 𝓛 (search rules) (data_range s.old) s.entry result ∗ ⌜ IsPart (data_range s.old) s.entry result ⌝ }
+    ensures* writes_back { sem 𝓛 (LendsPart (data_range s.old) s.entry result) }
+    ensures part { IsPartMut (data_range s.old) s.entry result }
 {
     let range = data_range(s);
     part_mut(s, range)

@@ -1,8 +1,8 @@
 // Commands. A range read says what is refused and why; the part read of the same name is then empty.
 ghost use Rattle.std.specs.Prelude.{◌≡◌, length};
-ghost use Rattle.std.proofs.Common.{rules};
+ghost use Rattle.std.specs.Borrow.{sem};
 ghost use Rattle.base.specs.Answer.{said_command_code, said_count, said_outcome, said_range};
-ghost use Rattle.base.specs.Parts.{IsPart, Ties, behind, up_to};
+ghost use Rattle.base.specs.Parts.{IsPart, IsPartMut, LendsPart, behind, up_to};
 ghost use Rattle.base.specs.Said.{after, done};
 ghost use Rattle.frame.specs.Answer.{areas_of, command_by_value, said_areas, said_command, said_command_sessions, signed, whole};
 ghost use Rattle.frame.specs.Command.{auth_range, cast_command, cast_command_prefix, command_areas, command_handles, handles_range, judge_command, parameters_range, read_command};
@@ -197,21 +197,24 @@ pub fn parameters(rules: Rules, s: &[u8]) -> &[u8]
 }
 
 pub fn handles_mut(rules: Rules, s: &mut [u8]) -> &mut [u8]
-    ensures* { Ties 𝓛 (search rules) (handles_range (book_of rules) s.old) s.entry result ∗ ⌜ IsPart (handles_range (book_of rules) s.old) s.entry result ⌝ }
+    ensures* writes_back { sem 𝓛 (LendsPart (handles_range (book_of rules) s.old) s.entry result) }
+    ensures part { IsPartMut (handles_range (book_of rules) s.old) s.entry result }
 {
     let range = handles_range(rules, s);
     part_mut(s, range)
 }
 
 pub fn auth_area_mut(rules: Rules, s: &mut [u8]) -> &mut [u8]
-    ensures* { Ties 𝓛 (search rules) (auth_range (book_of rules) s.old) s.entry result ∗ ⌜ IsPart (auth_range (book_of rules) s.old) s.entry result ⌝ }
+    ensures* writes_back { sem 𝓛 (LendsPart (auth_range (book_of rules) s.old) s.entry result) }
+    ensures part { IsPartMut (auth_range (book_of rules) s.old) s.entry result }
 {
     let range = auth_area_range(rules, s);
     part_mut(s, range)
 }
 
 pub fn parameters_mut(rules: Rules, s: &mut [u8]) -> &mut [u8]
-    ensures* { Ties 𝓛 (search rules) (parameters_range (book_of rules) s.old) s.entry result ∗ ⌜ IsPart (parameters_range (book_of rules) s.old) s.entry result ⌝ }
+    ensures* writes_back { sem 𝓛 (LendsPart (parameters_range (book_of rules) s.old) s.entry result) }
+    ensures part { IsPartMut (parameters_range (book_of rules) s.old) s.entry result }
 {
     let range = parameters_range(rules, s);
     part_mut(s, range)
@@ -238,7 +241,8 @@ pub fn cast(rules: Rules, s: &[u8]) -> &[u8]
 }
 
 pub fn cast_mut(rules: Rules, s: &mut [u8]) -> &mut [u8]
-    ensures* { Ties 𝓛 (search rules) (whole s.old (cast_command (book_of rules) s.old)) s.entry result ∗ ⌜ IsPart (whole s.old (cast_command (book_of rules) s.old)) s.entry result ⌝ }
+    ensures* writes_back { sem 𝓛 (LendsPart (whole s.old (cast_command (book_of rules) s.old)) s.entry result) }
+    ensures part { IsPartMut (whole s.old (cast_command (book_of rules) s.old)) s.entry result }
 {
     let range = cast_range(rules, s);
     part_mut(s, range)
@@ -264,7 +268,8 @@ pub fn cast_prefix(rules: Rules, s: &[u8]) -> &[u8]
 }
 
 pub fn cast_prefix_mut(rules: Rules, s: &mut [u8]) -> &mut [u8]
-    ensures* { Ties 𝓛 (search rules) (up_to (cast_command_prefix (book_of rules) s.old)) s.entry result ∗ ⌜ IsPart (up_to (cast_command_prefix (book_of rules) s.old)) s.entry result ⌝ }
+    ensures* writes_back { sem 𝓛 (LendsPart (up_to (cast_command_prefix (book_of rules) s.old)) s.entry result) }
+    ensures part { IsPartMut (up_to (cast_command_prefix (book_of rules) s.old)) s.entry result }
 {
     let range = cast_prefix_range(rules, s);
     part_mut(s, range)
@@ -284,7 +289,8 @@ pub fn cast_prefix_tail(rules: Rules, s: &[u8]) -> &[u8]
 }
 
 pub fn cast_prefix_tail_mut(rules: Rules, s: &mut [u8]) -> &mut [u8]
-    ensures* { Ties 𝓛 (search rules) (behind (up_to (cast_command_prefix (book_of rules) s.old)) (length s.old)) s.entry result ∗ ⌜ IsPart (behind (up_to (cast_command_prefix (book_of rules) s.old)) (length s.old)) s.entry result ⌝ }
+    ensures* writes_back { sem 𝓛 (LendsPart (behind (up_to (cast_command_prefix (book_of rules) s.old)) (length s.old)) s.entry result) }
+    ensures part { IsPartMut (behind (up_to (cast_command_prefix (book_of rules) s.old)) (length s.old)) s.entry result }
 {
     let range = prefix_tail_range(rules, s);
     part_mut(s, range)

@@ -1,8 +1,8 @@
 // Responses. Whether a response passes depends on the command that it answers: its code is asked for.
 ghost use Rattle.std.specs.Prelude.{◌≡◌, ◌≤◌, length, ◌||◌, eqb};
-ghost use Rattle.std.proofs.Common.{rules};
+ghost use Rattle.std.specs.Borrow.{sem};
 ghost use Rattle.base.specs.Answer.{said_outcome, said_range, said_response_code};
-ghost use Rattle.base.specs.Parts.{IsPart, Ties, behind, up_to};
+ghost use Rattle.base.specs.Parts.{IsPart, IsPartMut, LendsPart, behind, up_to};
 ghost use Rattle.base.specs.Said.{after, done};
 ghost use Rattle.frame.specs.Answer.{areas_of, response_by_value, said_areas, said_response, said_response_sessions, signed, whole};
 ghost use Rattle.frame.specs.Header.{is_rsp_command, plain, reads, read_rc, set_rc};
@@ -120,7 +120,8 @@ pub fn body(s: &[u8]) -> &[u8]
 }
 
 pub fn body_mut(s: &mut [u8]) -> &mut [u8]
-    ensures* { Ties 𝓛 (search rules) (body_range s.old) s.entry result ∗ ⌜ IsPart (body_range s.old) s.entry result ⌝ }
+    ensures* writes_back { sem 𝓛 (LendsPart (body_range s.old) s.entry result) }
+    ensures part { IsPartMut (body_range s.old) s.entry result }
 {
     let range = body_range(s);
     part_mut(s, range)
@@ -166,7 +167,8 @@ pub fn cast(rules: Rules, s: &[u8]) -> &[u8]
 }
 
 pub fn cast_mut(rules: Rules, s: &mut [u8]) -> &mut [u8]
-    ensures* { Ties 𝓛 (search rules) (whole s.old (cast_response (book_of rules) s.old)) s.entry result ∗ ⌜ IsPart (whole s.old (cast_response (book_of rules) s.old)) s.entry result ⌝ }
+    ensures* writes_back { sem 𝓛 (LendsPart (whole s.old (cast_response (book_of rules) s.old)) s.entry result) }
+    ensures part { IsPartMut (whole s.old (cast_response (book_of rules) s.old)) s.entry result }
 {
     let range = cast_range(rules, s);
     part_mut(s, range)
@@ -192,7 +194,8 @@ pub fn cast_prefix(rules: Rules, s: &[u8]) -> &[u8]
 }
 
 pub fn cast_prefix_mut(rules: Rules, s: &mut [u8]) -> &mut [u8]
-    ensures* { Ties 𝓛 (search rules) (up_to (cast_response_prefix (book_of rules) s.old)) s.entry result ∗ ⌜ IsPart (up_to (cast_response_prefix (book_of rules) s.old)) s.entry result ⌝ }
+    ensures* writes_back { sem 𝓛 (LendsPart (up_to (cast_response_prefix (book_of rules) s.old)) s.entry result) }
+    ensures part { IsPartMut (up_to (cast_response_prefix (book_of rules) s.old)) s.entry result }
 {
     let range = cast_prefix_range(rules, s);
     part_mut(s, range)
@@ -212,7 +215,8 @@ pub fn cast_prefix_tail(rules: Rules, s: &[u8]) -> &[u8]
 }
 
 pub fn cast_prefix_tail_mut(rules: Rules, s: &mut [u8]) -> &mut [u8]
-    ensures* { Ties 𝓛 (search rules) (behind (up_to (cast_response_prefix (book_of rules) s.old)) (length s.old)) s.entry result ∗ ⌜ IsPart (behind (up_to (cast_response_prefix (book_of rules) s.old)) (length s.old)) s.entry result ⌝ }
+    ensures* writes_back { sem 𝓛 (LendsPart (behind (up_to (cast_response_prefix (book_of rules) s.old)) (length s.old)) s.entry result) }
+    ensures part { IsPartMut (behind (up_to (cast_response_prefix (book_of rules) s.old)) (length s.old)) s.entry result }
 {
     let range = prefix_tail_range(rules, s);
     part_mut(s, range)

@@ -1,8 +1,8 @@
 // A command that passes `cast`, held as its lent bytes; a view of bytes that do not pass holds an empty part of them.
 ghost use Rattle.std.specs.Prelude.{◌≡◌, eqb, length};
-ghost use Rattle.std.proofs.Common.{rules};
+ghost use Rattle.std.specs.Borrow.{sem};
 ghost use Rattle.base.specs.Answer.{said_command_code, said_number32, said_outcome, said_tag};
-ghost use Rattle.base.specs.Parts.{IsPart, Ties};
+ghost use Rattle.base.specs.Parts.{IsPart, IsPartMut, LendsPart};
 ghost use Rattle.base.specs.Said.{done};
 ghost use Rattle.frame.specs.Answer.{whole};
 ghost use Rattle.frame.specs.Command.{auth_range, cast_command, handles_range, parameters_range, read_command};
@@ -92,7 +92,8 @@ pub struct TpmCommandMut<'a> {
 
 impl<'a> TpmCommandMut<'a> {
     pub fn cast_mut(rules: Rules, s: &'a mut [u8]) -> TpmCommandMut<'a>
-        ensures* { Ties 𝓛 (search rules) (whole s.old (cast_command (book_of rules) s.old)) s.entry result.frame ∗ ⌜ IsPart (whole s.old (cast_command (book_of rules) s.old)) s.entry result.frame × (result.rules ≡ rules) ⌝ }
+        ensures* writes_back { sem 𝓛 (LendsPart (whole s.old (cast_command (book_of rules) s.old)) s.entry result.frame) }
+        ensures part { IsPartMut (whole s.old (cast_command (book_of rules) s.old)) s.entry result.frame × (result.rules ≡ rules) }
     {
         TpmCommandMut {
             frame: frame::command::cast_mut(rules, s),
@@ -101,19 +102,22 @@ impl<'a> TpmCommandMut<'a> {
     }
 
     pub fn handles_mut(self) -> &'a mut [u8]
-        ensures* { Ties 𝓛 (search rules) (handles_range (book_of self.entry.rules) self.entry.frame.now) self.entry.frame result ∗ ⌜ IsPart (handles_range (book_of self.entry.rules) self.entry.frame.now) self.entry.frame result ⌝ }
+        ensures* writes_back { sem 𝓛 (LendsPart (handles_range (book_of self.entry.rules) self.entry.frame.now) self.entry.frame result) }
+        ensures part { IsPartMut (handles_range (book_of self.entry.rules) self.entry.frame.now) self.entry.frame result }
     {
         frame::command::handles_mut(self.rules, self.frame)
     }
 
     pub fn auth_area_mut(self) -> &'a mut [u8]
-        ensures* { Ties 𝓛 (search rules) (auth_range (book_of self.entry.rules) self.entry.frame.now) self.entry.frame result ∗ ⌜ IsPart (auth_range (book_of self.entry.rules) self.entry.frame.now) self.entry.frame result ⌝ }
+        ensures* writes_back { sem 𝓛 (LendsPart (auth_range (book_of self.entry.rules) self.entry.frame.now) self.entry.frame result) }
+        ensures part { IsPartMut (auth_range (book_of self.entry.rules) self.entry.frame.now) self.entry.frame result }
     {
         frame::command::auth_area_mut(self.rules, self.frame)
     }
 
     pub fn parameters_mut(self) -> &'a mut [u8]
-        ensures* { Ties 𝓛 (search rules) (parameters_range (book_of self.entry.rules) self.entry.frame.now) self.entry.frame result ∗ ⌜ IsPart (parameters_range (book_of self.entry.rules) self.entry.frame.now) self.entry.frame result ⌝ }
+        ensures* writes_back { sem 𝓛 (LendsPart (parameters_range (book_of self.entry.rules) self.entry.frame.now) self.entry.frame result) }
+        ensures part { IsPartMut (parameters_range (book_of self.entry.rules) self.entry.frame.now) self.entry.frame result }
     {
         frame::command::parameters_mut(self.rules, self.frame)
     }

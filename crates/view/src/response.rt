@@ -1,9 +1,9 @@
 // A response to the command of one code, that passes `cast`, held as its lent bytes; a view of bytes that do not pass holds an empty
 // part of them.
 ghost use Rattle.std.specs.Prelude.{◌≡◌, eqb, length};
-ghost use Rattle.std.proofs.Common.{rules};
+ghost use Rattle.std.specs.Borrow.{sem};
 ghost use Rattle.base.specs.Answer.{said_number32, said_outcome, said_response_code, said_tag};
-ghost use Rattle.base.specs.Parts.{IsPart, Ties};
+ghost use Rattle.base.specs.Parts.{IsPart, IsPartMut, LendsPart};
 ghost use Rattle.base.specs.Said.{done};
 ghost use Rattle.frame.specs.Answer.{whole};
 ghost use Rattle.frame.specs.Header.{read_rc, read_size, read_tag};
@@ -83,7 +83,8 @@ pub struct TpmResponseMut<'a> {
 
 impl<'a> TpmResponseMut<'a> {
     pub fn cast_mut(rules: Rules, s: &'a mut [u8]) -> TpmResponseMut<'a>
-        ensures* { Ties 𝓛 (search rules) (whole s.old (cast_response (book_of rules) s.old)) s.entry result.frame ∗ ⌜ IsPart (whole s.old (cast_response (book_of rules) s.old)) s.entry result.frame ⌝ }
+        ensures* writes_back { sem 𝓛 (LendsPart (whole s.old (cast_response (book_of rules) s.old)) s.entry result.frame) }
+        ensures part { IsPartMut (whole s.old (cast_response (book_of rules) s.old)) s.entry result.frame }
     {
         TpmResponseMut {
             frame: frame::response::cast_mut(rules, s),
@@ -91,7 +92,8 @@ impl<'a> TpmResponseMut<'a> {
     }
 
     pub fn body_mut(self) -> &'a mut [u8]
-        ensures* { Ties 𝓛 (search rules) (body_range self.entry.frame.now) self.entry.frame result ∗ ⌜ IsPart (body_range self.entry.frame.now) self.entry.frame result ⌝ }
+        ensures* writes_back { sem 𝓛 (LendsPart (body_range self.entry.frame.now) self.entry.frame result) }
+        ensures part { IsPartMut (body_range self.entry.frame.now) self.entry.frame result }
     {
         frame::response::body_mut(self.frame)
     }
