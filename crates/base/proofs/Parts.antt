@@ -12,7 +12,7 @@ use lib.ListN.{length, drop}
 use denote.Ref.{Bor}
 use Rattle.base.specs.declared.part.Span.{Span}
 use Rattle.base.specs.Answer.{Part}
-use Rattle.base.specs.Parts.{span, fits, placed, up_to, behind, held_at, part_in, IsPart}
+use Rattle.base.specs.Parts.{span, fits, placed, up_to, behind, held_at, part_in}
 use Rattle.base.specs.Said.{Said, gives, refuses}
 use Rattle.base.specs.Single.{SamePart}
 use Rattle.base.proofs.Lists.{take_rest}

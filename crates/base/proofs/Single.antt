@@ -1,6 +1,7 @@
 -- Each public function of base leaves a single answer and a single later state of what was lent (specs/Single.antt).
 -- Assumes nothing.
 use mathlib.Core.Path.{refl, sym, ◌∙◌}
+use denote.Ref.{as_bor}
 use Rattle.base.specs.Single.{Single, SinglePart}
 use Rattle.base.proofs.Refusals.{numbered_injective}
 use Rattle.base.proofs.Answers.{said_number16_injective, said_number32_injective, said_outcome_injective, said_range_injective}
@@ -78,5 +79,5 @@ behind κs a x y v w p q = (said_range_injective x y (p ∙ sym q), refl)
 part : SinglePart 1 part-kinds.ps part-kinds.r (λ κs x. x) part-reads.Post
 part κs a x y v w p q = (same_part x y p q, refl)
 
-part_mut : SinglePart 1 part-mut-kinds.ps part-mut-kinds.r (λ κs x. x) part-mut-reads.Post
-part_mut κs a x y v w p q = (same_part x y p q, refl)
+part_mut : SinglePart 1 part-mut-kinds.ps part-mut-kinds.r (λ κs x. as_bor x) part-mut-reads.Post
+part_mut κs a x y v w p q = (same_part (as_bor x) (as_bor y) p q, refl)

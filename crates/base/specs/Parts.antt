@@ -74,4 +74,4 @@ abbrev pub LendsAt : Span → MutBor (List ℕ) → MutBor (List ℕ) → Fml
 LendsAt p s r = Lends (Array u8 0) (Array u8 0) s r (λ last. put_at p last s.now)
 
 abbrev pub LendsPart : Said Part → MutBor (List ℕ) → MutBor (List ℕ) → Fml
-LendsPart range s r = LendsAt (placed range (length s.now)) s r
+LendsPart range s r = Lends (Array u8 0) (Array u8 0) s r (λ last. put_at (placed range (length s.now)) last s.now)

@@ -2,7 +2,6 @@
 -- Assumes nothing.
 use native.Mathlib.Omega.{arith}
 use Rattle.base.specs.Bytes.{number}
-use Rattle.std.proofs.Common.{rules}
 use Rattle.base.proofs.field.be16.Goals as goal
 
 pub returns : goal.returns

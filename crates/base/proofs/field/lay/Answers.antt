@@ -1,13 +1,12 @@
 -- `base::field::lay` meets its contract. The invariant: the first i bytes are copied, and the rest is as it was.
 -- Assumes nothing.
-use Prim.Native.Nat.{◌+◌, ◌-◌, ◌≤◌}
+use Prim.Native.Nat.{◌+◌}
 use mathlib.Core.Path.{◌≡◌, refl, ap, ◌∙◌}
 use native.Mathlib.Omega.{arith}
 use native.Mathlib.Numerals.{add-one}
 use lib.ListN.{length, get_or, length-set}
 use lib.Seq.{paste, paste-zero, paste-suc}
 use Rattle.base.proofs.Lists.{pasted}
-use Rattle.std.proofs.Common.{rules}
 use Rattle.base.proofs.field.lay.Goals as goal
 
 pub loop-i-init : goal.loop-i-init

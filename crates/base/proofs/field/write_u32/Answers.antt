@@ -2,10 +2,8 @@
 -- Assumes nothing.
 use native.Mathlib.Omega.{arith}
 use native.Mathlib.Numerals.{add-one, add-two, add-three}
-use lib.ListN.{length-set}
 use Rattle.base.proofs.Bytes.{four_bytes}
-use Rattle.base.proofs.Widths.{write_short, write_whole}
-use Rattle.std.proofs.Common.{rules}
+use Rattle.base.proofs.Widths.{write_whole}
 use Rattle.base.proofs.field.write_u32.Goals as goal
 
 pub returns-clause-bytes : goal.returns-clause-bytes

@@ -7,25 +7,25 @@ use native.Mathlib.Omega.{arith}
 use native.Mathlib.Nat.{lt_of_le_of_lt}
 use mathlib.Core.List.{[], ◌∷◌, List, ◌++◌}
 use lib.Dec.{T as Holds}
-use lib.ListN.{length, take, drop as drop-list, length-map}
+use lib.ListN.{length, take, drop as drop-list}
 use lib.Seq.{length-take-le}
 use seplogic.Ra.Ura.{Ura}
-use seplogic.Ra.TreeShare.{full_share}
+use base.Fraction.{full_share}
 use mir.Syntax.{named, w64}
 use mir.Val.{Val, WT, has_ty, vint}
 use base.Logic.{SProp, ent, sep, emp, via, snd∗, ex_e, id⊢, mono_l, comm∗, assoc∗, fst∗}
 use base.Fml.{Lft, Share, GName, Fml, ftrue, flft, fobs, fbor, fat}
+use base.Stored.{Gv, coded_list}
 use prog.Memory.{Memory}
 use prog.Routine.{Routine}
-use prog.Wp.{Calls, Loops, WpFn, Tables}
+use prog.Wp.{Calls, Loops, WpFn}
 use types.Logic.{Logic, sem}
 use contract.Monad.{Fun, fact}
-use contract.Running.{tables, tables_of}
+use contract.Running.{tables}
 use types.Kit.{‵, raw, ◌⊛◌, ⋆, some, later, ◌$◌, ◌∵◌, !, qed, by, move, keep, drop, use1, use3, rewrite, split, join, pick, fsplit, fjoin, suffices, frame, await, updating, done}
 use types.Run.{look, init, forget, stop, hop, fld, from, load, addr, bin, of_opd, and_then, no_more, assigns, land, returns, enter, alloc1, alloc0, params1, pass1, pass0, free1, free0}
 use types.Part.{agg, whole, sub, look_in}
-use types.Hole.{here}
-use sound.WpLaws.{FmC, fm_of, WpFn-mono}
+use sound.WpLaws.{FmC}
 use denote.RattleType.{owns}
 use denote.Shadow.{pure_i}
 use denote.Memory.{mem}
@@ -33,8 +33,9 @@ use denote.Lend.{Held}
 use denote.Laws.{Is, shows}
 use denote.Plain.{uint_Makes}
 use denote.Builtin.{u8, usize}
-use denote.Ref.{MutBor}
-use denote.Slice.{slice_val, MutSlice, mut_slice_vals, mut_slice_Tells, heres, Room, mut_slice_at, coded_holeys}
+use denote.Ref.{MutBor, as_bor}
+use denote.FollowSlice.{heres_id}
+use denote.Slice.{slice_val, MutSlice, mut_slice_vals, mut_slice_Tells, Room, mut_slice_at}
 use denote.Signature.{plain, mut_slice_of}
 use denote.Steps.{owned, peeks, heard, nothing, only}
 use denote.Enum.Laws as EL
@@ -43,16 +44,17 @@ use denote.Exit.{yes, no}
 use denote.Triple.Statement.{Contract, Triple}
 use denote.Triple.Call.{calls_at}
 use denote.Triple.Entry.{on_entry}
-use denote.Triple.Spec.{Meets, triple_of}
+use denote.Triple.Spec.{triple_of}
 use denote.Triple.Clauses.{ensured, lasts}
-use denote.Triple.Table.{entered, cited}
-use denote.Triple.Walked.{says, Stays, stay_dropped, on_exit, walk_of, Goes-spent_slice, Goes-dropped, Walks, ends_at, walked, walk_Meets}
-use borrow.Table.Elements.{at, at_byte, map_app}
+use denote.Triple.Table.{framed}
+use denote.Triple.Walked.{says, Stays, stay_dropped, on_exit, walk_of, Goes-spent_slice, Goes-dropped, ends_at}
+use borrow.Table.Elements.{at, at_byte}
 use borrow.Rule.Slice.PartMut.{put_same, Post-is, mid_len}
 use Rattle.base.specs.declared.answer.Range.{Range}
 use Rattle.base.specs.declared.part.Span.{Span}
 use Rattle.base.specs.Answer.{said_range}
-use Rattle.base.specs.Parts.{placed, held_at, IsAt, TiesAt}
+use Rattle.base.specs.Parts.{placed, held_at, IsAt, LendsAt}
+use Rattle.std.proofs.raw_atomic.Walks.{proved}
 use Rattle.base.proofs.Lending as lending
 use Rattle.base.proofs.Parts.{placed_within}
 use Rattle.base.specs.contracts.answer.Range as R
@@ -60,16 +62,18 @@ use Rattle.base.proofs.answer.Range.TheLaws as R'
 use Rattle.base.specs.contracts.part.Span as S
 use Rattle.base.proofs.part.Span.TheLaws as S'
 use Rattle.base.specs.contracts.part.placed as placed-fn
-use Rattle.base.proofs.part.placed.Symbol as placed-def
 use Rattle.base.proofs.part.placed.Symbol.{name as #placed}
-use Rattle.base.proofs.part.placed.Met as placed-thm
-use Rattle.base.specs.contracts.part.part_mut.Key.{name as #part-mut}
+use Rattle.base.proofs.part.placed.Met.{met}
+use Rattle.base.specs.contracts.part.part_mut.Key.{name as #part_mut}
 use Rattle.base.specs.contracts.part.part_mut as f
-use Rattle.base.proofs.part.part_mut.Statement as stated
+use Rattle.base.proofs.part.part_mut.Statement.{statement}
 use Rattle.base.proofs.part.part_mut.Code as code
 
 abbrev stayed : Stays (f.ended).signature.params (f.ended).kept
 stayed = (stay_dropped (mut_slice_of (0 ∷ []) tt (plain (λ _. u8))) no, (stay_dropped (plain (λ _. R.the_row)) yes, tt))
+
+abbrev coded : List ℕ → Gv
+coded = (coded_list u8.coded).code
 
 -- ---- the bytes beside a part and those in it are all
 
@@ -79,13 +83,8 @@ module _ (ys : List ℕ) (p : Span) (order : p.from ≤ p.to) (inside : p.to ≤
       ap (λ (l : List ℕ). take p.from ys ++ (held_at p ys ++ l)) (sym (Post-is p.from p.to ys order))
       ∙ put_same p.from (p.to - p.from) ys
 
-  all_there : heres u8 (take p.from ys) ++ (heres u8 (held_at p ys) ++ heres u8 (drop-list p.to ys)) ≡ heres u8 ys
-  all_there = rw (← map_app, ← map_app) (ap (heres u8) beside)
-
-  starts : (o : ℕ) → at o (mem u8).size (length (heres u8 (take p.from ys))) ≡ p.from + o
-  starts o =
-      at_byte o (length (heres u8 (take p.from ys)))
-      ∙ omega (arith, length-map (take p.from ys) (here (mem u8)), length-take-le p.from ys (omega arith))
+  starts : (o : ℕ) → at o (mem u8).size (length (take p.from ys)) ≡ p.from + o
+  starts o = at_byte o (length (take p.from ys)) ∙ omega (arith, length-take-le p.from ys (omega arith))
 
   long : length (held_at p ys) ≡ p.to - p.from
   long = mid_len p.from p.to ys inside
@@ -138,44 +137,40 @@ module _ {M : Type 1} {𝓤 : Ura M} (𝓛 : Logic 𝓤) (mm : Memory → SProp 
   inside : p.to ≤ length ys
   inside = (placed_within (said_range range) (length ys)).1
 
-  -- where the bytes behind the part begin, and what stays of the slice's borrow
+  -- where the bytes behind the part begin, and how the slice's last bytes follow the part's
   abbrev end : ℕ
   end = at (p.from + o) (mem u8).size (length (held_at p ys))
 
-  abbrev Rest : GName → Fml
-  Rest δ = lending.Stays b o (p.from + o) end (length ys) (length (held_at p ys)) (take p.from ys) (drop-list p.to ys) γ δ
-
-  abbrev Tied : GName → SProp 𝓤
-  Tied δ = TiesAt 𝓛 (κ, tt) p x (r δ)
+  abbrev Follows : GName → Fml
+  Follows δ = LendsAt p x (r δ)
 
   -- ---- the return
 
   handed : (δ : GName) → Room u8 (length (held_at p ys))
-      → ent 𝓤 (⋆ 𝓛 (‵ (fobs δ ((coded_holeys u8).code (heres u8 (held_at p ys)))) ∷ ‵ (fbor κ (Held u8 (length (held_at p ys)) b (p.from + o) δ)) ∷ ‵ (flft κ q) ∷ ‵ (fbor κ (Rest δ)) ∷ [])) (Post w)
+      → ent 𝓤 (⋆ 𝓛 (‵ (fobs δ (coded (held_at p ys))) ∷ ‵ (fbor κ (Held u8 (length (held_at p ys)) b (p.from + o) δ)) ∷ ‵ (flft κ q) ∷ ‵ (Follows δ) ∷ [])) (Post w)
   handed δ small =
-      qed 𝓛 (‵ (fobs δ ((coded_holeys u8).code (heres u8 (held_at p ys)))) ∷ ‵ (fbor κ (Held u8 (length (held_at p ys)) b (p.from + o) δ)) ∷ ‵ (flft κ q) ∷ ‵ (fbor κ (Rest δ)) ∷ []) ∵
-      suffices ! (sep 𝓤 (sep 𝓤 (Tied δ) OnExit) Said)
-      (via 𝓤 (sep 𝓤 (sep 𝓤 OnExit (Tied δ)) Said) (mono_l 𝓤 Said (comm∗ 𝓤 (Tied δ) OnExit))
-      (via 𝓤 (sep 𝓤 OnExit (sep 𝓤 (Tied δ) Said)) (assoc∗ 𝓤 OnExit (Tied δ) Said)
+      qed 𝓛 (‵ (fobs δ (coded (held_at p ys))) ∷ ‵ (fbor κ (Held u8 (length (held_at p ys)) b (p.from + o) δ)) ∷ ‵ (flft κ q) ∷ ‵ (Follows δ) ∷ []) ∵
+      suffices ! (sep 𝓤 (sep 𝓤 (sem 𝓛 (Follows δ)) OnExit) Said)
+      (via 𝓤 (sep 𝓤 (sep 𝓤 OnExit (sem 𝓛 (Follows δ))) Said) (mono_l 𝓤 Said (comm∗ 𝓤 (sem 𝓛 (Follows δ)) OnExit))
+      (via 𝓤 (sep 𝓤 OnExit (sep 𝓤 (sem 𝓛 (Follows δ)) Said)) (assoc∗ 𝓤 OnExit (sem 𝓛 (Follows δ)) Said)
       (ends_at 𝓛 f.ended stayed (f.clauses 𝓛 mm run) bound w (r δ) (tt, (tt, tt)) (tt, (tt, tt))))) $ says ! (refl, refl, omega arith) $
-      move ! (3 ∷ []) $
-      use1 𝓛 (raw (Tied δ)) (lending.ties b o (p.from + o) end (length ys) (length (held_at p ys)) (take p.from ys) (drop-list p.to ys) 𝓛 γ δ κ) $ frame ! $
+      move ! (3 ∷ []) $ frame ! $
       -- [the part's half; its borrow; the token]
       nothing ! $ move ! (3 ∷ 0 ∷ []) $ join ! $ frame ! $
-      fjoin ! $ pure_i ! (mut_slice_at u8 (r δ) (w ∷ [])) (tt, (tt, tt)) (ap (λ (n : ℕ). slice_val (b, p.from + o) n ∷ []) (sym (long ys p order inside)), small) $ fjoin ! $
+      rewrite ! 0 (λ (l : List ℕ). ‵ (fobs δ (coded l))) (sym (heres_id u8 (held_at p ys))) refl $ fjoin ! $ pure_i ! (mut_slice_at u8 (r δ) (w ∷ [])) (tt, (tt, tt)) (ap (λ (n : ℕ). slice_val (b, p.from + o) n ∷ []) (sym (long ys p order inside)), small) $ fjoin ! $
       nothing ! $ nothing ! $ fjoin ! $ nothing ! $ fjoin ! $ done !
     where
       OnExit : SProp 𝓤
       OnExit = on_exit 𝓛 f.ended stayed (κ, tt) (q, tt) vals w (r δ) arg (tt, (tt, tt))
 
       Said : SProp 𝓤
-      Said = fact 𝓤 (IsAt p x (r δ))
+      Said = fact 𝓤 (IsAt p (as_bor x) (as_bor (r δ)))
 
-  exits : ent 𝓤 (⋆ 𝓛 (‵ (fobs γ ((coded_holeys u8).code (heres u8 ys))) ∷ ‵ (fbor κ (Held u8 (length ys) b o γ)) ∷ ‵ (flft κ q) ∷ [])) (Post w)
+  exits : ent 𝓤 (⋆ 𝓛 (‵ (fobs γ (coded ys)) ∷ ‵ (fbor κ (Held u8 (length ys) b o γ)) ∷ ‵ (flft κ q) ∷ [])) (Post w)
   exits =
-      qed 𝓛 (‵ (fobs γ ((coded_holeys u8).code (heres u8 ys))) ∷ ‵ (fbor κ (Held u8 (length ys) b o γ)) ∷ ‵ (flft κ q) ∷ []) ∵ updating ! $
-      use3 𝓛 (later (some (λ (δ : GName). ‵ (fobs δ ((coded_holeys u8).code (heres u8 (held_at p ys)))) ⊛ ‵ (fbor κ (Held u8 (length (held_at p ys)) b (p.from + o) δ)) ⊛ ‵ (flft κ q) ⊛ ‵ (fbor κ (Rest δ)))))
-      (lending.splits b o (p.from + o) end (length ys) (length (held_at p ys)) (take p.from ys) (drop-list p.to ys) 𝓛 κ q γ ys (held_at p ys) (all_there ys p order inside) (starts ys p order inside o) refl (length-map (held_at p ys) (here (mem u8)))) $
+      qed 𝓛 (‵ (fobs γ (coded ys)) ∷ ‵ (fbor κ (Held u8 (length ys) b o γ)) ∷ ‵ (flft κ q) ∷ []) ∵ updating ! $
+      use3 𝓛 (later (some (λ (δ : GName). ‵ (fobs δ (coded (held_at p ys))) ⊛ ‵ (fbor κ (Held u8 (length (held_at p ys)) b (p.from + o) δ)) ⊛ ‵ (flft κ q) ⊛ ‵ (Follows δ))))
+      (lending.splits b o (p.from + o) end (length ys) (length (held_at p ys)) (take p.from ys) (drop-list p.to ys) 𝓛 κ q γ ys (held_at p ys) (beside ys p order inside) (starts ys p order inside o) refl refl) $
       await ! tt $ pick ! (λ δ. keep ! (0 ∷ []) $ by ! (handed δ smaller))
     where
       smaller : Room u8 (length (held_at p ys))
@@ -219,7 +214,7 @@ module _ {M : Type 1} {𝓤 : Ura M} (𝓛 : Logic 𝓤) (mm : Memory → SProp 
         assigns ! (agg ! (and_then ! (load ! (from ! (stop !)) (look ! 2 refl)) (and_then ! (load ! (from ! (stop !)) (look ! 6 refl)) (no_more !)))) (from ! (stop !)) (init ! 18 refl (tt, (tt, (record { fits = less }, tt)))) $
         returns ! (look ! 18 refl) $ forget ! 2 refl $ forget ! 4 refl $ forget ! 6 refl $ forget ! 8 refl $ forget ! 10 refl $ forget ! 12 refl $ forget ! 14 refl $ forget ! 16 refl $ forget ! 18 refl $
         move ! (18 ∷ 19 ∷ []) $ free1 ! $ move ! (16 ∷ 17 ∷ []) $ free1 ! $ move ! (14 ∷ 15 ∷ []) $ free1 ! $ move ! (12 ∷ 13 ∷ []) $ free1 ! $ move ! (10 ∷ 11 ∷ []) $ free1 ! $ move ! (8 ∷ 9 ∷ []) $ free1 ! $ move ! (6 ∷ 7 ∷ []) $ free1 ! $ move ! (4 ∷ 5 ∷ []) $ free1 ! $ move ! (2 ∷ 3 ∷ []) $ free1 ! $ free0 ! $
-        keep ! (2 ∷ 3 ∷ 4 ∷ []) $ by ! exits)))))))))))))
+        keep ! (2 ∷ 3 ∷ 4 ∷ []) $ rewrite ! 0 (λ (l : List ℕ). ‵ (fobs γ (coded l))) (heres_id u8 ys) refl $ by ! exits)))))))))))))
       where
         e_fits : p.to < 2 ^ 64
         e_fits = lt_of_le_of_lt inside room.0
@@ -230,25 +225,13 @@ module _ {M : Type 1} {𝓤 : Ura M} (𝓛 : Logic 𝓤) (mm : Memory → SProp 
         less : p.to - p.from < 2 ^ 64
         less = omega (arith, e_fits)
 
-module _ {M : Type 1} {𝓤 : Ura M} (𝓛 : Logic 𝓤) (mm : Memory → SProp 𝓤) (run : Routine → Fun 𝓤) where
-  open 𝓛 use {H}
-
-  walks : (C : Calls 𝓤 H) (Λ : Loops 𝓤 H) → FmC 𝓤 H 𝓛.laws C → Triple 𝓤 (C #placed) (Placed 𝓛 mm run) → Walks 𝓛 f.ended stayed (WpFn 𝓤 H C Λ code.function) (f.clauses 𝓛 mm run)
-  walks C Λ fm known =
-      walked 𝓛 f.ended stayed (f.clauses 𝓛 mm run) (WpFn 𝓤 H C Λ code.function) (λ κs. (mut_slice_vals, ((λ d. R'.lowered d ∷ []), tt))) (λ κs. (mut_slice_Tells (named 0) κs.0 u8, ((R'.lowers).val_is, tt)))
-      (λ κs qs bounds a g are. via 𝓤 _ (fst∗ 𝓤 _ (emp 𝓤))
-      (walk 𝓛 mm run κs.0 qs.0 a.0.ref_ptr.0 a.0.ref_ptr.1 a.0.ghost_name a.0.now are.0.0.1 a.1.0 C Λ fm known ((EL.lawful R.the_type R'.the_laws 𝓛 tt).typed a.1.0 _ are.1.0).0))
-
-meets : {M : Type 1} {𝓤 : Ura M} (𝓛 : Logic 𝓤) → (mm : Memory → SProp 𝓤) (run : Routine → Fun 𝓤) (𝓣 : Tables 𝓤 𝓛.H) → Triple 𝓤 (𝓣.C #placed) (Placed 𝓛 mm run)
-    → Meets 𝓛 f.signature (WpFn 𝓤 𝓛.H 𝓣.C 𝓣.Λ code.function) (f.spec 𝓛 mm run)
-meets {𝓤 = 𝓤} 𝓛 mm run 𝓣 known =
-    walk_Meets 𝓛 f.ended stayed (Goes-spent_slice 𝓛 1 (0 ∷ []) tt (plain (λ _. u8)), (Goes-dropped 𝓛 1 (plain (λ _. R.the_row)) yes (λ κs x f. refl), tt)) (f.clauses 𝓛 mm run)
-    (WpFn 𝓤 𝓛.H 𝓣.C 𝓣.Λ code.function) (WpFn-mono 𝓤 𝓛.H 𝓛.laws 𝓣 code.function) (walks 𝓛 mm run 𝓣.C 𝓣.Λ (fm_of 𝓤 𝓛.H 𝓛.laws 𝓣) known)
-
-pub part_mut_spec : {M : Type 1} → stated.statement M
-unfolding code.routine tables_of
-part_mut_spec 𝓤 𝓛 𝓜 𝓡 =
-    entered 𝓤 𝓛.H (triple_of 𝓛 f.signature (f.spec 𝓛 𝓜.mem 𝓡.run))
-    (tables 𝓤 𝓛.H 𝓜 𝓡 code.env).C (tables 𝓤 𝓛.H 𝓜 𝓡 code.env).Λ #part-mut code.function (code.unfolded 𝓤 𝓛.H 𝓜 𝓡)
-    (meets 𝓛 𝓜.mem 𝓡.run (tables_of 𝓤 𝓛.H 𝓜 (tables 𝓤 𝓛.H 𝓜 𝓡 code.env))
-    (cited 𝓤 𝓛.H (Placed 𝓛 𝓜.mem 𝓡.run) 𝓜 𝓡 code.env #placed placed-def.routine code.calls-base::part::placed (placed-thm.met 𝓤 𝓛 𝓜 𝓡)))
+pub part_mut_spec : {M : Type 1} → statement M
+part_mut_spec 𝓤 𝓛 𝓜 𝓡 wired =
+    proved 𝓛 f.ended stayed (f.clauses 𝓛 𝓜.mem 𝓡.returns) 𝓜 𝓡
+    (Goes-spent_slice 𝓛 1 (0 ∷ []) tt (plain (λ _. u8)), (Goes-dropped 𝓛 1 (plain (λ _. R.the_row)) yes (λ κs x f. refl), tt))
+    #part_mut code.function (code.unfolded 𝓤 𝓛.H 𝓜 𝓡 wired)
+    (λ κs. (mut_slice_vals, ((λ d. R'.lowered d ∷ []), tt))) (λ κs. (mut_slice_Tells (named 0) κs.0 u8, ((R'.lowers).val_is, tt)))
+    (λ κs qs bounds a g are. via 𝓤 _ (fst∗ 𝓤 _ (emp 𝓤))
+    (walk 𝓛 𝓜.mem 𝓡.returns κs.0 qs.0 a.0.ref_ptr.0 a.0.ref_ptr.1 a.0.ghost_name a.0.now are.0.0.1 a.1.0
+    (tables 𝓤 𝓛.H 𝓜 𝓡 𝓡.env).C (tables 𝓤 𝓛.H 𝓜 𝓡 𝓡.env).Λ (framed 𝓤 𝓛.H 𝓜 (tables 𝓤 𝓛.H 𝓜 𝓡 𝓡.env))
+    (met 𝓤 𝓛 𝓜 𝓡 (code.calls-base::part::placed 𝓡.env wired)) ((EL.lawful R.the_type R'.the_laws 𝓛 tt).typed a.1.0 _ are.1.0).0))
