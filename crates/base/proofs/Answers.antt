@@ -25,7 +25,8 @@ use Rattle.base.specs.declared.answer.Total.{Total}
 use Rattle.base.specs.declared.answer.Total.TheVariants as total
 use Rattle.base.specs.Said.{Said, gives, refuses}
 use Rattle.base.specs.Answer.{said_outcome, said_number16, said_number32, said_count, said_flag, said_tag, said_command_code, said_response_code, Part, said_range, said_total}
-use Rattle.base.proofs.Refusals.{named, named_numbered, writer_named, writer_named_numbered}
+use Rattle.base.proofs.Eight.{writer_named, writer_named_numbered}
+use Rattle.base.proofs.Refusals.{named, named_numbered}
 
 -- a function with a left inverse is injective
 pub injective_by : {A B : Type 0} (f : A → B) (back : B → A) → ((a : A) → back (f a) ≡ a) → (a b : A) → f a ≡ f b → a ≡ b

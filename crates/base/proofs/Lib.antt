@@ -2,7 +2,9 @@ pub mod Answers
 pub mod ByValue
 pub mod Bytes
 pub mod Checks
+pub mod Eight
 pub mod Facts
+pub mod Frameless
 pub mod Handing
 pub mod HandingBy
 pub mod Laid

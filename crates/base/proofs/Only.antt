@@ -10,7 +10,7 @@ use lib.Dec.{eqb, leb}
 use lib.ListN.{length}
 use Rattle.base.specs.declared.error.Area.{Area}
 use Rattle.base.specs.declared.error.Area.TheVariants.{None}
-use Rattle.base.specs.Field.{read_field, write_field, write_bytes}
+use Rattle.base.specs.Field.{read_field, write_field}
 use Rattle.base.specs.Members.{is_in}
 use Rattle.base.specs.Said.{Why, in_area, no_area, number_of, Said, gives, refuses, Only, other_than, Never, NoFrame, needs, then, within, done}
 use Rattle.base.proofs.Checks.{gives≢refuses, refuses_injective}
@@ -106,21 +106,3 @@ module _ (place : ℕ) (s : List ℕ) where
     pub only_written : (w n : ℕ) → (leb w (length s - place) ≡ false → kind (no_area (9 ∷ place ∷ w ∷ (length s - place) ∷ [])))
         → Only kind (write_field w place n s)
     only_written w n k = by_check (leb w (length s - place)) _ k (λ h. by_gives)
-
-  pub read_frameless : (w : ℕ) → Only (NoFrame (1 ∷ [])) (read_field w place s)
-  read_frameless w = only_read w (λ h. no_frame refl)
-
-  pub written_frameless : (w n : ℕ) → Only (NoFrame (9 ∷ [])) (write_field w place n s)
-  written_frameless w n = only_written w n (λ h. no_frame refl)
-
-  pub bytes_frameless : (t : List ℕ) → Only (NoFrame (9 ∷ [])) (write_bytes place t s)
-  bytes_frameless t = by_needs (leb (length t) (length s - place)) _ (no_frame refl) by_gives
-
-  pub read_nowhere : (w : ℕ) → within None (read_field w place s) ≡ read_field w place s
-  read_nowhere w = nowhere (read_frameless w)
-
-  pub never_read : (w : ℕ) → Never 7 (read_field w place s)
-  never_read w = by_no_other 7 refl (read_frameless w)
-
-  pub never_written : (w n : ℕ) → Never 7 (write_field w place n s)
-  never_written w n = by_no_other 7 refl (written_frameless w n)

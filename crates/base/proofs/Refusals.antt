@@ -1,31 +1,27 @@
--- An area, the paper's number and its values name one refusal each: the numbering is injective, of the eight that all calls share and of a writer's, and 7 is none of the eight.
+-- An area, the paper's number and its values name one refusal each: the numbering is injective, of the eight that all calls share. Eight.antt has that 7 is
+-- none of the eight, and the same of a writer's.
 -- Assumes nothing.
 use mathlib.Core.Path.{◌≡◌, refl, sym, ◌∙◌, ap}
-use mathlib.Core.List.{List, [], ◌∷◌}
 use Prim.Native.Nat.{ℕ}
-use borrow.Author.Tests.{ne_eqb}
 use lib.Dec.{eqb}
 use lib.ListN.{get_or}
 use Rattle.base.specs.declared.error.Area.{Area}
 use Rattle.base.specs.declared.error.Area.TheVariants as area
 use Rattle.base.specs.declared.error.TpmError.{TpmError}
 use Rattle.base.specs.declared.error.TpmError.TheVariants.{UnexpectedEnd, TrailingData, InvalidTag, InvalidCc, InvalidRc, TooManyItems, TooManyBytes, BufferOverflow}
-use Rattle.base.specs.declared.error.WriteError.{WriteError}
-use Rattle.base.specs.declared.error.WriteError.TheVariants.{Common, IntegerTooLarge}
-use Rattle.base.specs.Error.{area_number, numbered, writer_numbered}
-use Rattle.base.specs.Members.{is_in}
+use Rattle.base.specs.Error.{area_number, numbered}
 use Rattle.base.specs.Said.{Why, number_of, offset_of}
-use mathlib.Core.Bool.{Bool, true, false, false≢true, cond}
+use mathlib.Core.Bool.{cond}
 
 -- the refusal that an area, a number and its values name
-abbrev three : (Area → ℕ → ℕ → ℕ → TpmError) → Why → TpmError
+abbrev pub three : (Area → ℕ → ℕ → ℕ → TpmError) → Why → TpmError
 three made why = made why.area (offset_of why) (get_or why.numbers 2 0) (get_or why.numbers 3 0)
 
-abbrev two : {E : Type 0} → (ℕ → ℕ → E) → Why → E
+abbrev pub two : {E : Type 0} → (ℕ → ℕ → E) → Why → E
 two made why = made (offset_of why) (get_or why.numbers 2 0)
 
 -- the one of a number, or else another
-abbrev by : {E : Type 0} → ℕ → (Why → E) → Why → E → E
+abbrev pub by : {E : Type 0} → ℕ → (Why → E) → Why → E → E
 by k made why other = cond (eqb (number_of why) k) (made why) other
 
 pub named : Why → TpmError
@@ -52,36 +48,6 @@ named_numbered (BufferOverflow area o n a) = refl
 
 pub numbered_injective : (e f : TpmError) → numbered e ≡ numbered f → e ≡ f
 numbered_injective e f p = sym (named_numbered e) ∙ ap named p ∙ named_numbered f
-
--- the eight have these numbers, and no other
-abbrev pub eight : List ℕ
-eight = 1 ∷ 2 ∷ 3 ∷ 4 ∷ 5 ∷ 6 ∷ 8 ∷ 9 ∷ []
-
-of_eight : (e : TpmError) → is_in (number_of (numbered e)) eight ≡ true
-of_eight (UnexpectedEnd area o n a) = refl
-of_eight (TrailingData area o a) = refl
-of_eight (InvalidTag area o v) = refl
-of_eight (InvalidCc area o v) = refl
-of_eight (InvalidRc area o v) = refl
-of_eight (TooManyItems area o l a) = refl
-of_eight (TooManyBytes area o l a) = refl
-of_eight (BufferOverflow area o n a) = refl
-
-pub no_other : (n : ℕ) → is_in n eight ≡ false → (e : TpmError) → eqb (number_of (numbered e)) n ≡ false
-no_other n p e = ne_eqb (number_of (numbered e)) n (λ same. false≢true (sym p ∙ ap (λ (k : ℕ). is_in k eight) (sym same) ∙ of_eight e))
-
-pub writer_named : Why → WriteError
-writer_named why = by 7 (two IntegerTooLarge) why (Common (named why))
-
-pub writer_named_numbered : (e : WriteError) → writer_named (writer_numbered e) ≡ e
-unfolding writer_named
-writer_named_numbered (Common e) =
-    let why = numbered e in
-    ap (λ (b : Bool). cond b (two IntegerTooLarge why) (Common (named why))) (no_other 7 refl e) ∙ ap Common (named_numbered e)
-writer_named_numbered (IntegerTooLarge o v) = refl
-
-pub writer_numbered_injective : (e f : WriteError) → writer_numbered e ≡ writer_numbered f → e ≡ f
-writer_numbered_injective e f p = sym (writer_named_numbered e) ∙ ap writer_named p ∙ writer_named_numbered f
 
 -- the number of an area names it
 area_named : ℕ → Area

@@ -11,7 +11,8 @@ use denote.Triple.Clauses.{Lasts, at_exit}
 use lib.Dec.{eqb}
 use Rattle.base.specs.Parts.{up_to}
 use Rattle.base.specs.Said.{Said, gives, refuses, Only, Never}
-use Rattle.base.proofs.Only.{by_gives, by_refuses, by_needs, by_cond, by_done, by_then, by_step, not_by, by_no_other, never_read, never_written}
+use Rattle.base.proofs.Frameless.{never_read, never_written}
+use Rattle.base.proofs.Only.{by_gives, by_refuses, by_needs, by_cond, by_done, by_then, by_step, not_by, by_no_other}
 use Rattle.buffer.proofs.Only as buffer
 use Rattle.frame.specs.Answer.{whole, command_by_value, response_by_value}
 use Rattle.frame.specs.Command.{Division}

@@ -9,7 +9,8 @@ use Rattle.base.specs.Error as frame
 use Rattle.base.specs.Said.{Why, number_of, Said, gives, refuses}
 use Rattle.base.specs.Single.{Single}
 use Rattle.base.proofs.Answers.{injective_by}
-use Rattle.base.proofs.Refusals.{named, named_numbered, no_other}
+use Rattle.base.proofs.Eight.{no_other}
+use Rattle.base.proofs.Refusals.{named, named_numbered}
 use Rattle.keeper.specs.declared.refusal.Refusal.{Refusal}
 use Rattle.keeper.specs.declared.refusal.Refusal.TheVariants as refusal
 use Rattle.keeper.specs.declared.refusal.Outcome.{Outcome}
