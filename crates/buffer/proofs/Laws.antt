@@ -99,10 +99,10 @@ module _ (capacity : ℕ) (b : Buffer) (lent : List ℕ) (w : OfCapacity capacit
       × (part_in (behind (up_to (prefix capacity later)) (length later)) later ≡ drop (2 + b.size) lent)
   marshal_unmarshal =
       let size = size_held in
-      let all : length (wire b) ≡ 2 + b.size = length_tpm2b (held b) ∙ ap (λ (m : ℕ). 2 + m) size in
       let rest : List ℕ = drop (length (wire b)) lent in
       let later : List ℕ = over (wire b) lent in
       let read : gives (2 + length (held b)) ≡ prefix capacity later = prefix_tpm2b capacity (held b) rest (omega arith) (omega arith) in
+      let all : length (wire b) ≡ 2 + b.size = length_tpm2b (held b) ∙ ap (λ (m : ℕ). 2 + m) size in
       let t : List ℕ = take (2 + length (held b) - 2) (drop 2 later) in
       let two : 2 + length (held b) - 2 ≡ length (held b) = omega arith in
       let back : t ≡ held b = ap (λ (m : ℕ). take m (drop 2 later)) two ∙ tpm2b_data (held b) rest (omega arith) in

@@ -2,6 +2,7 @@
 -- Assumes nothing.
 use mathlib.Core.Path.{◌≡◌, refl, sym, ◌∙◌}
 use Rattle.base.specs.Answer.{said_outcome}
+use denote.Ref.{as_bor}
 use Rattle.base.specs.Single.{Single, SinglePart}
 use Rattle.base.proofs.Answers.{said_count_injective, said_flag_injective, said_outcome_injective, said_range_injective}
 use Rattle.base.proofs.Parts.{same_part}
@@ -126,20 +127,20 @@ cast_prefix κs a x y v w p q = (same_part x y p q, refl)
 cast_prefix_tail : SinglePart 1 cast-prefix-tail-kinds.ps cast-prefix-tail-kinds.r (λ κs x. x) cast-prefix-tail-reads.Post
 cast_prefix_tail κs a x y v w p q = (same_part x y p q, refl)
 
-cast_mut : SinglePart 1 cast-mut-kinds.ps cast-mut-kinds.r (λ κs x. x) cast-mut-reads.Post
-cast_mut κs a x y v w p q = (same_part x y p q, refl)
+cast_mut : SinglePart 1 cast-mut-kinds.ps cast-mut-kinds.r (λ κs x. as_bor x) cast-mut-reads.Post
+cast_mut κs a x y v w p q = (same_part (as_bor x) (as_bor y) p q, refl)
 
-cast_prefix_mut : SinglePart 1 cast-prefix-mut-kinds.ps cast-prefix-mut-kinds.r (λ κs x. x) cast-prefix-mut-reads.Post
-cast_prefix_mut κs a x y v w p q = (same_part x y p q, refl)
+cast_prefix_mut : SinglePart 1 cast-prefix-mut-kinds.ps cast-prefix-mut-kinds.r (λ κs x. as_bor x) cast-prefix-mut-reads.Post
+cast_prefix_mut κs a x y v w p q = (same_part (as_bor x) (as_bor y) p q, refl)
 
-cast_prefix_tail_mut : SinglePart 1 cast-prefix-tail-mut-kinds.ps cast-prefix-tail-mut-kinds.r (λ κs x. x) cast-prefix-tail-mut-reads.Post
-cast_prefix_tail_mut κs a x y v w p q = (same_part x y p q, refl)
+cast_prefix_tail_mut : SinglePart 1 cast-prefix-tail-mut-kinds.ps cast-prefix-tail-mut-kinds.r (λ κs x. as_bor x) cast-prefix-tail-mut-reads.Post
+cast_prefix_tail_mut κs a x y v w p q = (same_part (as_bor x) (as_bor y) p q, refl)
 
 data_part : SinglePart 1 data-kinds.ps data-kinds.r (λ κs x. x) data_Reads.Post
 data_part κs a x y v w p q = (same_part x y p q, refl)
 
-data_mut : SinglePart 1 data-mut-kinds.ps data-mut-kinds.r (λ κs x. x) data-mut-reads.Post
-data_mut κs a x y v w p q = (same_part x y p q, refl)
+data_mut : SinglePart 1 data-mut-kinds.ps data-mut-kinds.r (λ κs x. as_bor x) data-mut-reads.Post
+data_mut κs a x y v w p q = (same_part (as_bor x) (as_bor y) p q, refl)
 
 -- ---- the buffer of 64
 

@@ -133,5 +133,5 @@ pub(crate) fn same(size: usize, data: &[u8], other_size: usize, other: &[u8]) ->
     if data.len() < other_size {
         return Flag::Refused(too_many(data.len(), other_size));
     }
-    Flag::Is(check::same(&data[..size], &other[..other_size]))
+    Flag::Is(data[..size] == other[..other_size])
 }

@@ -1,0 +1,37 @@
+-- `buffer::room::marshal` meets its contract: each return is the case of the definition to which its tests lead, and two stores and `put` wrote the TPM2B.
+-- Assumes nothing.
+use mathlib.Core.Path.{refl, ◌∙◌}
+use Prim.Native.Nat.{◌+◌}
+use native.Mathlib.Omega.{arith}
+use lib.ListN.{length, take}
+use Rattle.base.specs.Tpm2b.{tpm2b}
+use Rattle.buffer.proofs.Rooms.{emit_too_many, emit_no_room, emit_done, length_held, length_wire, wire_over}
+use Rattle.buffer.proofs.room.marshal.Goals as goal
+
+pub returns-then-data-size : goal.returns-then-data-size
+returns-then-data-size c =
+    let a = c.args in
+    let d = a.«data».now in
+    let l = a.lent.now in
+    let refused = emit_too_many (length d) a.size (tpm2b (take a.size d)) l (2 + a.size) (2 + a.size) (length_wire a.size d) c.if-data-size.true in
+    record { result_value = rw c.too_many.ensures refused.0; lent_after = refused.1 }
+
+pub returns-then-lent-size : goal.returns-then-lent-size
+returns-then-lent-size c =
+    let a = c.args in
+    let d = a.«data».now in
+    let l = a.lent.now in
+    let refused = emit_no_room (length d) a.size (tpm2b (take a.size d)) l (2 + a.size) (2 + a.size) (length_wire a.size d) c.if-data-size.false c.if-lent-size.true in
+    record { result_value = rw c.no_room.ensures refused.0; lent_after = refused.1 }
+
+pub returns : goal.returns
+returns c =
+    let a = c.args in
+    let d = a.«data».now in
+    let l = a.lent.now in
+    let few = c.if-data-size.false in
+    let done = emit_done (length d) a.size (tpm2b (take a.size d)) l (2 + a.size) (2 + a.size) (length_wire a.size d) few c.if-lent-size.false in
+    record {
+      result_value = done.0;
+      lent_after = c.put.ensures ∙ wire_over a.size (take a.size d) l _ (length_held a.size d few) refl (omega arith) (omega arith) ∙ done.1;
+    }
