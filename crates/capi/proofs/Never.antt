@@ -23,7 +23,7 @@ use Rattle.rc.proofs.Never.{never_code}
 use Rattle.table.specs.declared.revision.Revision.{Revision}
 use Rattle.table.specs.Dispatch.{table_of}
 use Rattle.table.proofs.Only.{never_row}
-use Rattle.capi.specs.Code.{kindNumbered}
+use Rattle.capi.specs.Code.{kind_numbered}
 use Rattle.capi.specs.Out.{returned, Reports}
 use Rattle.capi.specs.Rules.{table_named, rules_numbered, revision_numbered, under, at_table}
 use Rattle.capi.proofs.field.skein_read_u16.Kinds as skein-read-u16-kinds
@@ -177,8 +177,8 @@ by_table : {A : Type 0} (n : ℕ) {say : Revision → Said A} → ((table : Revi
 unfolding revision_numbered
 by_table n p = by_then (by_needs (eqb (n % 16) 0) _ refl (never_table n (n / 16))) p
 
-never_kind : (n : ℕ) → Never 7 (kindNumbered n)
-unfolding kindNumbered
+never_kind : (n : ℕ) → Never 7 (kind_numbered n)
+unfolding kind_numbered
 never_kind n =
     by_cond (eqb n 0) by_gives
     (by_cond (eqb n 1) by_gives

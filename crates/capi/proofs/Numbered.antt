@@ -4,11 +4,11 @@ use mathlib.Core.Path.{◌≡◌, refl}
 use Rattle.base.specs.Said.{gives}
 use Rattle.rc.specs.declared.code.Code.{Code}
 use Rattle.rc.specs.declared.code.Code.TheVariants.{Fmt0, Warn, Fmt1, Parameter, Handle, Session}
-use Rattle.rc.specs.Code.{kindNumber, kind_of, base_of, index_of}
-use Rattle.capi.specs.Code.{kindNumbered, code_of}
+use Rattle.rc.specs.Code.{kind_number, kind_of, base_of, index_of}
+use Rattle.capi.specs.Code.{kind_numbered, code_of}
 
-pub taken_again : (c : Code) → code_of (kindNumber (kind_of c)) (base_of c) (index_of c) ≡ gives c
-unfolding kindNumbered
+pub taken_again : (c : Code) → code_of (kind_number (kind_of c)) (base_of c) (index_of c) ≡ gives c
+unfolding kind_numbered
 taken_again (Fmt0 b) = refl
 taken_again (Warn b) = refl
 taken_again (Fmt1 b) = refl

@@ -5,10 +5,10 @@ use Rattle.base.specs.Said.{no_area, Said, gives, refuses, then}
 use Rattle.rc.specs.declared.code.Code.{Code}
 use Rattle.rc.specs.declared.code.Kind.{Kind}
 use Rattle.rc.specs.declared.code.Kind.TheVariants.{Fmt0, Warn, Fmt1, Parameter, Handle, Session}
-use Rattle.rc.specs.Code.{kindNumber, kind_of, base_of, index_of, ofParts, value_of}
+use Rattle.rc.specs.Code.{kind_number, kind_of, base_of, index_of, of_parts, value_of}
 
 abbrev pub parts_and_value : Code → List ℕ
-parts_and_value c = kindNumber (kind_of c) ∷ base_of c ∷ index_of c ∷ value_of c ∷ []
+parts_and_value c = kind_number (kind_of c) ∷ base_of c ∷ index_of c ∷ value_of c ∷ []
 
 abbrev pub value : Code → List ℕ
 value c = value_of c ∷ []
@@ -25,4 +25,4 @@ kind_numbered n =
     (refuses (no_area (100 ∷ 0 ∷ n ∷ []))))))))
 
 abbrev pub code_of : ℕ → ℕ → ℕ → Said Code
-code_of kind b n = then (kind_numbered kind) λ k. gives (ofParts k b n)
+code_of kind b n = then (kind_numbered kind) λ k. gives (of_parts k b n)

@@ -1,7 +1,7 @@
 // The response code, of crate rc. A code goes out as the number of its kind, its base, the number of its part and its value.
 ghost use Rattle.base.specs.Said.{gives};
-ghost use Rattle.rc.specs.Code.{ofParts, read_code};
-ghost use Rattle.capi.specs.Code.{code_of, partsAndValue, value};
+ghost use Rattle.rc.specs.Code.{of_parts, read_code};
+ghost use Rattle.capi.specs.Code.{code_of, parts_and_value, value};
 ghost use Rattle.capi.specs.Out.{Reports};
 
 use crate::out;
@@ -11,7 +11,7 @@ use rc::code::{Answer, Code, Kind};
 
 #[unsafe(no_mangle)]
 pub extern "C" fn skein_rc_read(rc: u32, out: &mut Numbers) -> u32
-    ensures { Reports partsAndValue (read_code rc) out.old out.new result }
+    ensures { Reports parts_and_value (read_code rc) out.old out.new result }
 {
     let answer = rc::code::read(TpmRc(rc));
     match answer {
@@ -28,7 +28,7 @@ pub extern "C" fn skein_rc_read(rc: u32, out: &mut Numbers) -> u32
 
 // The value of the code of a kind, a base and an index.
 fn value_of(kind: Kind, base: u32, index: u8, out: &mut Numbers) -> u32
-    ensures { Reports value (gives (ofParts kind base index)) out.old out.new result }
+    ensures { Reports value (gives (of_parts kind base index)) out.old out.new result }
 {
     out[0] = Code::from_parts(kind, base, index).value() as u64;
     0

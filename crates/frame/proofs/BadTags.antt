@@ -9,7 +9,7 @@ use native.Mathlib.Omega.{arith}
 use borrow.Author.Tests.{eqb-true, eq-eqb}
 use lib.Dec.{eqb}
 use Rattle.base.specs.Said.{given}
-use Rattle.rc.specs.Code.{read_code, readFmt0}
+use Rattle.rc.specs.Code.{read_code, read_fmt0}
 use Rattle.rc.specs.Known.{is_known, known_codes}
 use Rattle.frame.specs.Header.{plain, sessions, rsp_command, bad_tag, is_rsp_command, reads, is_of_two, is_response_tag}
 use Rattle.frame.specs.Layout.{Frame, PlainError, BadTagAnswer}
@@ -18,7 +18,7 @@ use Rattle.frame.proofs.FrameLaws.{of_two}
 
 -- success reads, as the list of known codes has it
 success_known : given (read_code 0) ≡ true
-unfolding read_code readFmt0 is_known known_codes
+unfolding read_code read_fmt0 is_known known_codes
 success_known = refl
 
 module _ (book : Rulebook) where

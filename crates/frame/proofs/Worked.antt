@@ -8,7 +8,7 @@ use lib.ListN.{replicate}
 use Rattle.base.specs.declared.error.Area.TheVariants.{Header, Handles, Authorization, Parameters}
 use Rattle.base.specs.Bytes.{number}
 use Rattle.base.specs.Said.{in_area, Said, gives, refuses, then, done}
-use Rattle.rc.specs.Code.{read_code, readFmt1, readFmt0, readIndex, base_of, kindNumber, kind_of, index_of}
+use Rattle.rc.specs.Code.{read_code, read_fmt1, read_fmt0, read_index, base_of, kind_number, kind_of, index_of}
 use Rattle.rc.specs.Known.{is_known, known_codes}
 use Rattle.table.specs.declared.revision.Revision.TheVariants as revision
 use Rattle.table.specs.Dispatch.{table_of}
@@ -52,7 +52,7 @@ answer (parts-of-command s) =
 answer (validate-response cc s) = then (read_response rust cc s) λ d. gives []
 answer (parts-of-response cc s) =
     then (response_by_value s (read_response rust cc s)) λ r. gives (places r.handles r.auth r.parameters)
-answer (read_code_lem n) = then (read_code n) λ c. gives (base_of c ∷ kindNumber (kind_of c) ∷ index_of c ∷ [])
+answer (read_code_lem n) = then (read_code n) λ c. gives (base_of c ∷ kind_number (kind_of c) ∷ index_of c ∷ [])
 
 -- ---- the frames
 
@@ -159,7 +159,7 @@ pub limit_rows : command_both (command_with 91 (field 64 64 ++ (0 ∷ field 0 0)
     ∷ (gives tt ∷ refuses (in_area Authorization (8 ∷ 18 ∷ 64 ∷ 65 ∷ [])) ∷ [])
     ∷ (gives tt ∷ refuses (in_area Authorization (8 ∷ 21 ∷ 64 ∷ 65 ∷ [])) ∷ [])
     ∷ []
-unfolding number table_of tags tag_of size_of code_of read_cc read_rc frame_prefix frame_whole read_command_tag read_response_tag handle_area sized_area command_handles command_areas judge_command cast_command read_command judge_response cast_response success_areas response_areas read_response read_code readFmt0 is_known known_codes read_tpm2b read_signed read_entry walk
+unfolding number table_of tags tag_of size_of code_of read_cc read_rc frame_prefix frame_whole read_command_tag read_response_tag handle_area sized_area command_handles command_areas judge_command cast_command read_command judge_response cast_response success_areas response_areas read_response read_code read_fmt0 is_known known_codes read_tpm2b read_signed read_entry walk
 limit_rows = refl
 
 -- ---- each line of the tables of refusals occurs (document 02, W2)
@@ -226,5 +226,5 @@ pub response_pairs : refused_response 0x17b []
     ∷ refuses (in_area Authorization (6 ∷ 33 ∷ 3 ∷ 4 ∷ []))
     ∷ refuses (in_area Authorization (8 ∷ 18 ∷ 64 ∷ 65 ∷ []))
     ∷ []
-unfolding number table_of tags tag_of size_of code_of read_rc frame_prefix frame_whole read_response_tag handle_area sized_area judge_response cast_response error_areas success_areas response_areas read_response read_code readFmt1 readFmt0 readIndex is_known known_codes read_tpm2b read_signed read_entry walk
+unfolding number table_of tags tag_of size_of code_of read_rc frame_prefix frame_whole read_response_tag handle_area sized_area judge_response cast_response error_areas success_areas response_areas read_response read_code read_fmt1 read_fmt0 read_index is_known known_codes read_tpm2b read_signed read_entry walk
 response_pairs = refl

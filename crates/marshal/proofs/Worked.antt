@@ -9,7 +9,7 @@ use mathlib.Core.Bool.{cond}
 use Rattle.base.specs.declared.error.Area.TheVariants.{Header, Authorization, Parameters}
 use Rattle.base.specs.Bytes.{bytes, number}
 use Rattle.base.specs.Said.{in_area, no_area, Said, gives, refuses, then}
-use Rattle.rc.specs.Code.{readIndex, readFmt1, readFmt0, read_code}
+use Rattle.rc.specs.Code.{read_index, read_fmt1, read_fmt0, read_code}
 use Rattle.rc.specs.Known.{is_known, known_codes}
 use Rattle.table.specs.declared.revision.Revision.TheVariants as revision
 use Rattle.table.specs.Dispatch.{table_of}
@@ -137,7 +137,7 @@ results [] = []
 results (r ∷ rs) = r.result ∷ results rs
 
 pub starred : answers rows ≡ results rows
-unfolding bytes number table_of tags tag_of size_of code_of read_cc read_rc frame_prefix frame_whole read_command_tag read_response_tag handle_area sized_area command_handles command_areas judge_command cast_command read_command judge_response cast_response error_areas success_areas response_areas read_response read_tpm2b read_signed read_entry walk read_code readFmt1 readFmt0 readIndex is_known known_codes layout_command layout_response sessions_there judged write_command write_success write_error write_response
+unfolding bytes number table_of tags tag_of size_of code_of read_cc read_rc frame_prefix frame_whole read_command_tag read_response_tag handle_area sized_area command_handles command_areas judge_command cast_command read_command judge_response cast_response error_areas success_areas response_areas read_response read_tpm2b read_signed read_entry walk read_code read_fmt1 read_fmt0 read_index is_known known_codes layout_command layout_response sessions_there judged write_command write_success write_error write_response
 starred = refl
 
 -- ---- the order of checks: in each row all that is judged later and can be refused beside it would be; 7 has laws of its own (TooLarge)
@@ -232,5 +232,5 @@ refusals =
     ∷ []
 
 pub order : answers refusals ≡ results refusals
-unfolding bytes number table_of tag_of size_of code_of read_rc frame_prefix frame_whole read_response_tag judge_response cast_response error_areas response_areas read_response walk read_code readFmt1 readFmt0 readIndex is_known known_codes layout_response sessions_there judged write_command write_success write_error write_bad_tag write_response
+unfolding bytes number table_of tag_of size_of code_of read_rc frame_prefix frame_whole read_response_tag judge_response cast_response error_areas response_areas read_response walk read_code read_fmt1 read_fmt0 read_index is_known known_codes layout_response sessions_there judged write_command write_success write_error write_bad_tag write_response
 order = refl

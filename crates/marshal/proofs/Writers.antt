@@ -12,7 +12,7 @@ use lib.ListN.{length, take, drop}
 use lib.Seq.{take_at}
 use Rattle.base.specs.Said.{Why, no_area, Said, gives, refuses, needs, then, given}
 use Rattle.base.proofs.Checks.{passes, fails, goes_on, stops, needs_gives, then_gives, cond_gives, gives_injective, gives≢refuses}
-use Rattle.rc.specs.Code.{read_code, readFmt0}
+use Rattle.rc.specs.Code.{read_code, read_fmt0}
 use Rattle.rc.specs.Known.{is_known, known_codes}
 use Rattle.table.specs.Table.{row_for}
 use Rattle.table.specs.declared.row.Row.{Row}
@@ -222,7 +222,7 @@ module _ (book : Rulebook) (tag code : ℕ) (h : Handed) (room : ℕ) where
 -- ---- responses
 
 success_reads : given (read_code 0) ≡ true
-unfolding read_code readFmt0 is_known known_codes
+unfolding read_code read_fmt0 is_known known_codes
 success_reads = refl
 
 counted_needs : (t : Bool) (why : Why) (said : Said (List ℕ)) → needs t why (counted said) ≡ counted (needs t why said)

@@ -3,7 +3,7 @@
 -- Assumes nothing.
 use mathlib.Core.Path.{◌≡◌, refl, sym, ◌∙◌}
 use mathlib.Core.Bool.{Bool, true, false, ◌&&◌, ◌||◌, not, beq}
-use mathlib.Core.List.{List, [], ◌∷◌}
+use mathlib.Core.List.{[], ◌∷◌}
 use Prim.Native.Nat.{ℕ, ◌+◌, ◌≤◌, ◌<◌, zero-le}
 use native.Mathlib.Omega.{arith}
 use borrow.Author.Tests.{ltb-true, ltb-false}
@@ -46,7 +46,33 @@ not_known code h = by (is_known code) refl
     by true e = absurd (let low = ltb-true code 0x980 (at_member (λ (k : ℕ). ltb k 0x980) known_codes refl code e) in omega arith)
     by false e = refl
 
--- where a group lies, it alone decides
+-- a test below 0x980, and nothing from there on, is a test of every code
+everywhere : (f g : ℕ → Bool) → below (λ (k : ℕ). beq (f (0 + k)) (g (0 + k))) 0x980 ≡ true → ((code : ℕ) → 0x980 ≤ code → f code ≡ g code)
+    → (code : ℕ) → f code ≡ g code
+everywhere f g e past code = by (ltb code 0x980) refl
+  where
+    by : (t : Bool) → ltb code 0x980 ≡ t → f code ≡ g code
+    by true h = on_stretch f g 0 0x980 e code zero-le (ltb-true code 0x980 h)
+    by false h = past code (ltb-false code 0x980 h)
+
+-- ---- the groups and the list
+
+-- at every number, so at every value of 32 bits
+pub as_listed : (code : ℕ) → in_groups code ≡ is_known code
+unfolding in_groups is_known known_codes
+as_listed =
+    everywhere in_groups is_known refl
+    λ code h.
+    (simp (
+      sym (behind 0x080 tpm12 refl code (omega arith)),
+      sym (behind 0x180 ver1 refl code (omega arith)),
+      sym (behind 0x0C0 fmt1 refl code (omega arith)),
+      sym (behind 0x980 warn refl code h),
+    ))
+    ∙ not_known code h
+
+-- ---- where a group lies, it alone decides
+
 pub tpm12_decides : (code : ℕ) → code < 0x080 → in_some code tpm12 ≡ is_known code
 unfolding is_known known_codes
 tpm12_decides code h = on_stretch (λ (c : ℕ). in_some c tpm12) is_known 0 0x080 refl code (omega arith) h
@@ -67,15 +93,6 @@ pub none_between : (code : ℕ) → 0x180 ≤ code → code < 0x900 → false �
 unfolding is_known known_codes
 none_between = on_stretch (λ (c : ℕ). false) is_known 0x180 0x900 refl
 
--- a test below 0x980, and nothing from there on, is a test of every code
-everywhere : (f g : ℕ → Bool) → below (λ (k : ℕ). beq (f (0 + k)) (g (0 + k))) 0x980 ≡ true → ((code : ℕ) → 0x980 ≤ code → f code ≡ g code)
-    → (code : ℕ) → f code ≡ g code
-everywhere f g e past code = by (ltb code 0x980) refl
-  where
-    by : (t : Bool) → ltb code 0x980 ≡ t → f code ≡ g code
-    by true h = on_stretch f g 0 0x980 e code zero-le (ltb-true code 0x980 h)
-    by false h = past code (ltb-false code 0x980 h)
-
 -- ---- what the bits of a known code say of its group
 
 by_bits : (group bits : ℕ → Bool) → below (λ (k : ℕ). beq (group (0 + k)) (is_known (0 + k) && bits (0 + k))) 0x980 ≡ true
@@ -95,19 +112,3 @@ fmt1_bits = by_bits (λ (c : ℕ). in_some c fmt1) (λ (c : ℕ). leb 128 c && l
 pub warn_bits : (code : ℕ) → in_some code warn ≡ (is_known code && (not (bit 128 code) && (bit 256 code && bit 2048 code)))
 unfolding is_known known_codes
 warn_bits = by_bits (λ (c : ℕ). in_some c warn) (λ (c : ℕ). not (bit 128 c) && (bit 256 c && bit 2048 c)) refl (behind 0x980 warn refl)
-
--- ---- the groups and the list
-
--- at every number, so at every value of 32 bits
-pub as_listed : (code : ℕ) → in_groups code ≡ is_known code
-unfolding in_groups is_known known_codes
-as_listed =
-    everywhere in_groups is_known refl
-    λ code h.
-    simp (
-      sym (behind 0x080 tpm12 refl code (omega arith)),
-      sym (behind 0x180 ver1 refl code (omega arith)),
-      sym (behind 0x0C0 fmt1 refl code (omega arith)),
-      sym (behind 0x980 warn refl code h),
-    )
-    ∙ not_known code h

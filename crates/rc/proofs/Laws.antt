@@ -3,7 +3,7 @@
 use mathlib.Core.Path.{◌≡◌, refl, sym, ◌∙◌, ap, subst}
 use mathlib.Core.Bool.{Bool, true, false, ◌&&◌, ◌||◌, not, cond, and-eq-true_iff}
 use mathlib.Core.List.{[], ◌∷◌}
-use mathlib.Core.Logic.{◌⊎◌, ⊎_elim, ◌↔◌}
+use mathlib.Core.Logic.{⊎_elim, ◌↔◌}
 use Prim.Native.Nat.{ℕ, ◌+◌, ◌-◌, ◌*◌, ◌/◌, ◌%◌, ◌^◌, ◌≤◌, ◌<◌}
 use native.Mathlib.Omega.{arith}
 use borrow.Author.Tests.{eqb-true, eqb-false, leb-true, ltb-true, ltb-false, le-leb, lt-ltb, eq-eqb, not-true}
@@ -16,7 +16,7 @@ use Rattle.base.proofs.Only.{by_gives, by_needs, by_cond}
 use Rattle.rc.specs.declared.code.Code.{Code}
 use Rattle.rc.specs.declared.code.Code.TheVariants.{Fmt0, Warn, Fmt1, Parameter, Handle, Session}
 use Rattle.rc.specs.Known.{in_some, tpm12, ver1, fmt1, warn, is_known}
-use Rattle.rc.specs.Code.{bit, base, readIndex, readFmt1, readFmt0, read_code, value_of, kind_of, base_of, index_of, ofParts}
+use Rattle.rc.specs.Code.{bit, base, read_index, read_fmt1, read_fmt0, read_code, value_of, kind_of, base_of, index_of, of_parts}
 use Rattle.rc.specs.Layout.{OfFmt0, OfFmt1, WellFormed}
 use Rattle.rc.proofs.Cases.{format_one, fmt1_open, parameter, no_index, handle, session}
 use Rattle.rc.proofs.Groups.{fmt0_bits, fmt1_bits, warn_bits}
@@ -47,16 +47,16 @@ abbrev Sound : ℕ → Code → Type 0
 Sound value c = WellFormed c × (value_of c ≡ value)
 
 module _ (value : ℕ) where
-  sound_parameter : (b n : ℕ) → OfFmt1 b → n < 16 → value ≡ n * 256 + (b + 64) → (c : Code) → readIndex value b true n ≡ gives c → Sound value c
-  unfolding readIndex
+  sound_parameter : (b n : ℕ) → OfFmt1 b → n < 16 → value ≡ n * 256 + (b + 64) → (c : Code) → read_index value b true n ≡ gives c → Sound value c
+  unfolding read_index
   sound_parameter b n w h v c e =
       let checked = needs_gives (ltb 0 n) _ _ e in
       let positive = ltb-true 0 n checked.0 in
       subst (Sound value) (gives_injective checked.1)
       ((w, omega arith, omega arith), with_parameter b n w.1 w.2 ∙ omega arith)
 
-  sound_index : (b n : ℕ) → OfFmt1 b → n < 16 → value ≡ n * 256 + b → (c : Code) → readIndex value b false n ≡ gives c → Sound value c
-  unfolding readIndex
+  sound_index : (b n : ℕ) → OfFmt1 b → n < 16 → value ≡ n * 256 + b → (c : Code) → read_index value b false n ≡ gives c → Sound value c
+  unfolding read_index
   sound_index b n w h v c e =
       ⊎_elim none (λ some. ⊎_elim (of_handle (eqb-false n 0 some.0)) of_session (cond_gives (ltb n 8) _ _ some.1)) (cond_gives (eqb n 0) _ _ e)
     where
@@ -75,8 +75,8 @@ module _ (value : ℕ) where
           let many = ltb-false n 8 p.0 in
           subst (Sound value) (gives_injective p.1) ((w, omega arith), with_index b (n - 8 + 8) (omega arith) ∙ omega arith)
 
-  sound_fmt1 : value / 128 % 2 ≡ 1 → (c : Code) → readFmt1 value ≡ gives c → Sound value c
-  unfolding readFmt1
+  sound_fmt1 : value / 128 % 2 ≡ 1 → (c : Code) → read_fmt1 value ≡ gives c → Sound value c
+  unfolding read_fmt1
   sound_fmt1 t c e =
       let low = needs_gives (ltb value 4096) _ _ e in
       let found = needs_gives (is_known (128 + value % 64)) _ _ low.1 in
@@ -84,7 +84,7 @@ module _ (value : ℕ) where
       by found.0 bound (bit 64 value) refl found.1
     where
       by : is_known (128 + value % 64) ≡ true → value < 4096 → (p : Bool) → bit 64 value ≡ p
-          → readIndex value (128 + value % 64) p (value / 256 % 16) ≡ gives c → Sound value c
+          → read_index value (128 + value % 64) p (value / 256 % 16) ≡ gives c → Sound value c
       by k h true p r =
           let whole = parts value 1 h t (eqb-true (value / 64 % 2) 1 p) in
           sound_parameter (128 + value % 64) (value / 256 % 16) (k, omega arith, omega arith) (omega arith) (omega arith) c r
@@ -93,8 +93,8 @@ module _ (value : ℕ) where
           let whole = parts value 0 h t (omega arith) in
           sound_index (128 + value % 64) (value / 256 % 16) (k, omega arith, omega arith) (omega arith) (omega arith) c r
 
-  sound_fmt0 : bit 128 value ≡ false → (c : Code) → readFmt0 value ≡ gives c → Sound value c
-  unfolding readFmt0
+  sound_fmt0 : bit 128 value ≡ false → (c : Code) → read_fmt0 value ≡ gives c → Sound value c
+  unfolding read_fmt0
   sound_fmt0 t c e =
       let found = needs_gives (is_known value) _ _ e in
       by found.0 (bit 256 value && bit 2048 value) refl found.1
@@ -110,18 +110,18 @@ module _ (value : ℕ) where
       ⊎_elim (λ p. sound_fmt1 (eqb-true (value / 128 % 2) 1 p.0) c p.1) (λ p. sound_fmt0 p.0 c p.1)
       (cond_gives (bit 128 value) _ _ e)
 
--- ---- complete: a well_formed code is what its value reads as
+-- ---- complete: a well-formed code is what its value reads as
 
 -- of a value with the bits of format one, what its index says
 opened : (value b n : ℕ) → value < 4096 → value / 128 % 2 ≡ 1 → 128 + value % 64 ≡ b → is_known b ≡ true → value / 256 % 16 ≡ n
-    → read_code value ≡ readIndex value b (bit 64 value) n
+    → read_code value ≡ read_index value b (bit 64 value) n
 opened value b n h t p k q =
     sym (format_one value (eq-eqb (value / 128 % 2) 1 t)) ∙ fmt1_open value h (rw p k)
-    ∙ (λ i. readIndex value (p i) (bit 64 value) (q i))
+    ∙ (λ i. read_index value (p i) (bit 64 value) (q i))
 
 complete_fmt0 : (value : ℕ) → OfFmt0 value → (p : Bool) → (bit 256 value && bit 2048 value) ≡ p
     → read_code value ≡ gives (cond p (Warn (base value)) (Fmt0 (base value)))
-unfolding read_code readFmt0
+unfolding read_code read_fmt0
 complete_fmt0 value w p e = simp (w.1, w.0, e)
 
 pub complete : (c : Code) → WellFormed c → read_code (value_of c) ≡ gives c
@@ -187,22 +187,22 @@ abbrev pub Five : ℕ → Why → Type 0
 Five value why = why ≡ no_area (5 ∷ 0 ∷ value ∷ [])
 
 module _ (value : ℕ) where
-  five_index : (b : ℕ) (p : Bool) (n : ℕ) → Only (Five value) (readIndex value b p n)
-  unfolding readIndex
+  five_index : (b : ℕ) (p : Bool) (n : ℕ) → Only (Five value) (read_index value b p n)
+  unfolding read_index
   five_index b p n =
       by_cond p (by_needs (ltb 0 n) _ refl by_gives)
       (by_cond (eqb n 0) by_gives
       (by_cond (ltb n 8) by_gives by_gives))
 
   pub only_five : Only (Five value) (read_code value)
-  unfolding read_code readFmt1 readFmt0
+  unfolding read_code read_fmt1 read_fmt0
   only_five =
       by_cond (bit 128 value)
       (by_needs (ltb value 4096) _ refl
       (by_needs (is_known (128 + value % 64)) _ refl (five_index (128 + value % 64) (bit 64 value) (value / 256 % 16))))
       (by_needs (is_known value) _ refl by_gives)
 
--- two well_formed codes of one value are one
+-- two well-formed codes of one value are one
 pub one_reading : (c d : Code) → WellFormed c → WellFormed d → value_of c ≡ value_of d → c ≡ d
 one_reading c d w u e = gives_injective (sym (complete c w) ∙ ap read_code e ∙ complete d u)
 
@@ -211,7 +211,7 @@ pub read_again : (value : ℕ) (c : Code) → read_code value ≡ gives c → (v
 read_again value c e = let s = sound value c e in (s.1, complete c s.0)
 
 -- a code is told whole by its kind, its base and the number of its part
-pub told_by_parts : (c : Code) → ofParts (kind_of c) (base_of c) (index_of c) ≡ c
+pub told_by_parts : (c : Code) → of_parts (kind_of c) (base_of c) (index_of c) ≡ c
 told_by_parts (Fmt0 b) = refl
 told_by_parts (Warn b) = refl
 told_by_parts (Fmt1 b) = refl

@@ -55,6 +55,7 @@ behind to ranges e code h = by (in_some code ranges) refl
 
 -- a code that is one of the keys, each of which the ranges have
 pub has_key : (ranges : Ranges) (keys : List ℕ) → every (λ (k : ℕ). in_some k ranges) keys ≡ true → (code : ℕ) → OneOf keys code → true ≡ in_some code ranges
+has_key ranges [] e code h = elim h [ ]
 has_key ranges (k ∷ []) e code h = rw h (sym ((and-eq-true_iff (in_some k ranges) true).0 e).0)
 has_key ranges (k ∷ next ∷ more) e code (inl h) = rw h (sym ((and-eq-true_iff (in_some k ranges) _).0 e).0)
 has_key ranges (k ∷ next ∷ more) e code (inr h) = has_key ranges (next ∷ more) ((and-eq-true_iff (in_some k ranges) _).0 e).1 code h

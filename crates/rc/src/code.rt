@@ -1,6 +1,6 @@
 // A response code taken apart, and put together again.
 ghost use Rattle.std.specs.Prelude.{◌≡◌, ◌&&◌, ◌*◌, ◌%◌};
-ghost use Rattle.rc.specs.Code.{base_of, bit, index_of, kindNumber, kind_of, ofParts, read_code, readFmt1, saidCode, value_of};
+ghost use Rattle.rc.specs.Code.{base_of, bit, index_of, kind_number, kind_of, of_parts, read_code, read_fmt1, said_code, value_of};
 
 use crate::known::base_known;
 use base::code::TpmRc;
@@ -41,7 +41,7 @@ pub enum Answer {
 
 // What a response code says. Bit 7 tells the format, and so it is looked at before the warning's bits.
 pub fn read(rc: TpmRc) -> Answer
-    ensures { saidCode result ≡ read_code rc.0 }
+    ensures { said_code result ≡ read_code rc.0 }
 {
     let value = rc.0;
     if is_fmt1(value) {
@@ -73,7 +73,7 @@ fn is_warning(value: u32) -> bool
 
 // The same of a code whose bit 7 is set: bits 0 to 5 are the base's, bit 6 is P, bits 8 to 11 are N.
 fn read_fmt1(rc: TpmRc) -> Answer
-    ensures { saidCode result ≡ readFmt1 rc.0 }
+    ensures { said_code result ≡ read_fmt1 rc.0 }
 {
     let value = rc.0;
     if value >= 4096 {
@@ -102,7 +102,7 @@ fn read_fmt1(rc: TpmRc) -> Answer
 impl Code {
     // The code of a kind, a base and an index, of which kinds without one take no notice.
     pub fn from_parts(kind: Kind, base: u32, index: u8) -> Self
-        ensures { result ≡ ofParts kind base index }
+        ensures { result ≡ of_parts kind base index }
     {
         let base = TpmRcBase(base);
         match kind {
@@ -174,7 +174,7 @@ impl Code {
 impl Kind {
     // The number of a kind, from 0 in the order of the variants.
     pub fn number(self) -> u32
-        ensures { result ≡ kindNumber self }
+        ensures { result ≡ kind_number self }
     {
         match self {
             Kind::Fmt0 => 0,
