@@ -1,6 +1,7 @@
 -- Each public function of frame leaves a single answer and a single later state of what was lent (base, specs/Single.antt).
 -- Assumes nothing.
 use mathlib.Core.Path.{◌≡◌, refl, sym, ◌∙◌, ap}
+use denote.Ref.{as_bor}
 use Rattle.base.specs.Single.{Single, SinglePart}
 use Rattle.base.proofs.Refusals.{named_numbered}
 use Rattle.base.proofs.Answers.{
@@ -197,14 +198,14 @@ command_auth_area κs a x y v w p q = (same_part x y p q, refl)
 command_parameters : SinglePart 1 command-parameters-kinds.ps command-parameters-kinds.r (λ κs x. x) command-parameters-reads.Post
 command_parameters κs a x y v w p q = (same_part x y p q, refl)
 
-command_handles_mut : SinglePart 1 command-handles-mut-kinds.ps command-handles-mut-kinds.r (λ κs x. x) command-handles-mut-reads.Post
-command_handles_mut κs a x y v w p q = (same_part x y p q, refl)
+command_handles_mut : SinglePart 1 command-handles-mut-kinds.ps command-handles-mut-kinds.r (λ κs x. as_bor x) command-handles-mut-reads.Post
+command_handles_mut κs a x y v w p q = (same_part (as_bor x) (as_bor y) p q, refl)
 
-command_auth_area_mut : SinglePart 1 command-auth-area-mut-kinds.ps command-auth-area-mut-kinds.r (λ κs x. x) command-auth-area-mut-reads.Post
-command_auth_area_mut κs a x y v w p q = (same_part x y p q, refl)
+command_auth_area_mut : SinglePart 1 command-auth-area-mut-kinds.ps command-auth-area-mut-kinds.r (λ κs x. as_bor x) command-auth-area-mut-reads.Post
+command_auth_area_mut κs a x y v w p q = (same_part (as_bor x) (as_bor y) p q, refl)
 
-command_parameters_mut : SinglePart 1 command-parameters-mut-kinds.ps command-parameters-mut-kinds.r (λ κs x. x) command-parameters-mut-reads.Post
-command_parameters_mut κs a x y v w p q = (same_part x y p q, refl)
+command_parameters_mut : SinglePart 1 command-parameters-mut-kinds.ps command-parameters-mut-kinds.r (λ κs x. as_bor x) command-parameters-mut-reads.Post
+command_parameters_mut κs a x y v w p q = (same_part (as_bor x) (as_bor y) p q, refl)
 
 command_cast_range : Single 1 command-cast-range-kinds.ps command-cast-range-kinds.r command-cast-range-reads.Post
 command_cast_range κs a x y v w p q = (said_range_injective x y (p ∙ sym q), refl)
@@ -212,8 +213,8 @@ command_cast_range κs a x y v w p q = (said_range_injective x y (p ∙ sym q), 
 command_cast : SinglePart 1 command-cast-kinds.ps command-cast-kinds.r (λ κs x. x) command-cast-reads.Post
 command_cast κs a x y v w p q = (same_part x y p q, refl)
 
-command_cast_mut : SinglePart 1 command-cast-mut-kinds.ps command-cast-mut-kinds.r (λ κs x. x) command-cast-mut-reads.Post
-command_cast_mut κs a x y v w p q = (same_part x y p q, refl)
+command_cast_mut : SinglePart 1 command-cast-mut-kinds.ps command-cast-mut-kinds.r (λ κs x. as_bor x) command-cast-mut-reads.Post
+command_cast_mut κs a x y v w p q = (same_part (as_bor x) (as_bor y) p q, refl)
 
 command_cast_prefix_range : Single 1 command-cast-prefix-range-kinds.ps command-cast-prefix-range-kinds.r command-cast-prefix-range-reads.Post
 command_cast_prefix_range κs a x y v w p q = (said_range_injective x y (p ∙ sym q), refl)
@@ -221,14 +222,14 @@ command_cast_prefix_range κs a x y v w p q = (said_range_injective x y (p ∙ s
 command_cast_prefix : SinglePart 1 command-cast-prefix-kinds.ps command-cast-prefix-kinds.r (λ κs x. x) command-cast-prefix-reads.Post
 command_cast_prefix κs a x y v w p q = (same_part x y p q, refl)
 
-command_cast_prefix_mut : SinglePart 1 command-cast-prefix-mut-kinds.ps command-cast-prefix-mut-kinds.r (λ κs x. x) command-cast-prefix-mut-reads.Post
-command_cast_prefix_mut κs a x y v w p q = (same_part x y p q, refl)
+command_cast_prefix_mut : SinglePart 1 command-cast-prefix-mut-kinds.ps command-cast-prefix-mut-kinds.r (λ κs x. as_bor x) command-cast-prefix-mut-reads.Post
+command_cast_prefix_mut κs a x y v w p q = (same_part (as_bor x) (as_bor y) p q, refl)
 
 command_cast_prefix_tail : SinglePart 1 command-cast-prefix-tail-kinds.ps command-cast-prefix-tail-kinds.r (λ κs x. x) command-cast-prefix-tail-reads.Post
 command_cast_prefix_tail κs a x y v w p q = (same_part x y p q, refl)
 
-command_cast_prefix_tail_mut : SinglePart 1 command-cast-prefix-tail-mut-kinds.ps command-cast-prefix-tail-mut-kinds.r (λ κs x. x) command-cast-prefix-tail-mut-reads.Post
-command_cast_prefix_tail_mut κs a x y v w p q = (same_part x y p q, refl)
+command_cast_prefix_tail_mut : SinglePart 1 command-cast-prefix-tail-mut-kinds.ps command-cast-prefix-tail-mut-kinds.r (λ κs x. as_bor x) command-cast-prefix-tail-mut-reads.Post
+command_cast_prefix_tail_mut κs a x y v w p q = (same_part (as_bor x) (as_bor y) p q, refl)
 
 command_validate : Single 1 command-validate-kinds.ps command-validate-kinds.r command-validate-reads.Post
 command_validate κs a x y v w p q = (said_outcome_injective x y (p ∙ sym q), refl)
@@ -253,8 +254,8 @@ response_body_range κs a x y v w p q = (said_range_injective x y (p ∙ sym q),
 response_body : SinglePart 1 response-body-kinds.ps response-body-kinds.r (λ κs x. x) response-body-reads.Post
 response_body κs a x y v w p q = (same_part x y p q, refl)
 
-response_body_mut : SinglePart 1 response-body-mut-kinds.ps response-body-mut-kinds.r (λ κs x. x) response-body-mut-reads.Post
-response_body_mut κs a x y v w p q = (same_part x y p q, refl)
+response_body_mut : SinglePart 1 response-body-mut-kinds.ps response-body-mut-kinds.r (λ κs x. as_bor x) response-body-mut-reads.Post
+response_body_mut κs a x y v w p q = (same_part (as_bor x) (as_bor y) p q, refl)
 
 response_cast_range : Single 1 response-cast-range-kinds.ps response-cast-range-kinds.r response-cast-range-reads.Post
 response_cast_range κs a x y v w p q = (said_range_injective x y (p ∙ sym q), refl)
@@ -262,8 +263,8 @@ response_cast_range κs a x y v w p q = (said_range_injective x y (p ∙ sym q),
 response_cast : SinglePart 1 response-cast-kinds.ps response-cast-kinds.r (λ κs x. x) response-cast-reads.Post
 response_cast κs a x y v w p q = (same_part x y p q, refl)
 
-response_cast_mut : SinglePart 1 response-cast-mut-kinds.ps response-cast-mut-kinds.r (λ κs x. x) response-cast-mut-reads.Post
-response_cast_mut κs a x y v w p q = (same_part x y p q, refl)
+response_cast_mut : SinglePart 1 response-cast-mut-kinds.ps response-cast-mut-kinds.r (λ κs x. as_bor x) response-cast-mut-reads.Post
+response_cast_mut κs a x y v w p q = (same_part (as_bor x) (as_bor y) p q, refl)
 
 response_cast_prefix_range : Single 1 response-cast-prefix-range-kinds.ps response-cast-prefix-range-kinds.r response-cast-prefix-range-reads.Post
 response_cast_prefix_range κs a x y v w p q = (said_range_injective x y (p ∙ sym q), refl)
@@ -271,14 +272,14 @@ response_cast_prefix_range κs a x y v w p q = (said_range_injective x y (p ∙ 
 response_cast_prefix : SinglePart 1 response-cast-prefix-kinds.ps response-cast-prefix-kinds.r (λ κs x. x) response-cast-prefix-reads.Post
 response_cast_prefix κs a x y v w p q = (same_part x y p q, refl)
 
-response_cast_prefix_mut : SinglePart 1 response-cast-prefix-mut-kinds.ps response-cast-prefix-mut-kinds.r (λ κs x. x) response-cast-prefix-mut-reads.Post
-response_cast_prefix_mut κs a x y v w p q = (same_part x y p q, refl)
+response_cast_prefix_mut : SinglePart 1 response-cast-prefix-mut-kinds.ps response-cast-prefix-mut-kinds.r (λ κs x. as_bor x) response-cast-prefix-mut-reads.Post
+response_cast_prefix_mut κs a x y v w p q = (same_part (as_bor x) (as_bor y) p q, refl)
 
 response_cast_prefix_tail : SinglePart 1 response-cast-prefix-tail-kinds.ps response-cast-prefix-tail-kinds.r (λ κs x. x) response-cast-prefix-tail-reads.Post
 response_cast_prefix_tail κs a x y v w p q = (same_part x y p q, refl)
 
-response_cast_prefix_tail_mut : SinglePart 1 response-cast-prefix-tail-mut-kinds.ps response-cast-prefix-tail-mut-kinds.r (λ κs x. x) response-cast-prefix-tail-mut-reads.Post
-response_cast_prefix_tail_mut κs a x y v w p q = (same_part x y p q, refl)
+response_cast_prefix_tail_mut : SinglePart 1 response-cast-prefix-tail-mut-kinds.ps response-cast-prefix-tail-mut-kinds.r (λ κs x. as_bor x) response-cast-prefix-tail-mut-reads.Post
+response_cast_prefix_tail_mut κs a x y v w p q = (same_part (as_bor x) (as_bor y) p q, refl)
 
 response_validate : Single 1 response-validate-kinds.ps response-validate-kinds.r response-validate-reads.Post
 response_validate κs a x y v w p q = (said_outcome_injective x y (p ∙ sym q), refl)

@@ -46,7 +46,7 @@ passes limit (suc k) width s place e = elim (cond_gives (leb (length s) place) _
 ]
 
 -- no more entries than may come
-few : {limit k width : ℕ} {s : List ℕ} {place : ℕ} {es : List Session} → Passes limit width s k place es → length es ≤ k
+few : {limit width : ℕ} {s : List ℕ} {k place : ℕ} {es : List Session} → Passes limit width s k place es → length es ≤ k
 few (ended end) = omega arith
 few (passed read more) = let rest = few more in omega arith
 
@@ -118,7 +118,7 @@ each_field by [] k = tt
 each_field by (e ∷ es) k = ((by e.nonce k.0.0, by e.hmac k.0.1), each_field by es k.1)
 
 -- every nonce and HMAC that a walk tells is within the limit, and stands within the bytes
-inside : {limit width k place : ℕ} {s : List ℕ} {es : List Session} → Passes limit width s k place es → EachField (Kept limit (length s)) es
+inside : {limit width : ℕ} {s : List ℕ} {k place : ℕ} {es : List Session} → Passes limit width s k place es → EachField (Kept limit (length s)) es
 inside (ended end) = tt
 inside {limit} {width} {s = s} (passed {place = place} read more) = (entry_inside limit width s place read, inside more)
 
