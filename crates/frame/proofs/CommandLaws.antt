@@ -14,7 +14,7 @@ use Rattle.base.specs.declared.error.Area.TheVariants.{Header, Authorization}
 use Rattle.base.specs.Bytes.{AreBytes}
 use Rattle.base.specs.Members.{is_in}
 use Rattle.base.specs.Parts.{held_at}
-use Rattle.base.specs.Said.{within, gives}
+use Rattle.base.specs.Said.{gives}
 use Rattle.base.proofs.Bytes.{are_bytes_take, are_bytes_drop}
 use Rattle.base.proofs.Checks.{needs_gives, then_gives, then_within, gives_injective}
 use Rattle.base.proofs.Places.{At}

@@ -3,11 +3,13 @@ pub mod CommandLaws
 pub mod Divides
 pub mod Divisions
 pub mod EntryLaws
+pub mod ErrorAreas
 pub mod FrameLaws
 pub mod Headers
 pub mod Laws
 pub mod Limits
 pub mod Never
+pub mod Passes
 pub mod Readings
 pub mod Refused
 pub mod ResponseLaws
@@ -18,4 +20,6 @@ pub mod Standing
 pub mod WalkLaws
 pub mod Walks
 pub mod Where
+pub mod WhereSteps
+pub mod WhereSuccess
 pub mod Worked

@@ -8,7 +8,7 @@ use mathlib.Core.Logic.{◌⊎◌, inl, inr}
 use Prim.Native.Nat.{ℕ, ◌+◌, ◌-◌, ◌*◌, ◌≤◌, ◌<◌}
 use native.Mathlib.Nat.{le_refl}
 use native.Mathlib.Omega.{arith}
-use borrow.Author.Tests.{le-leb, leb-true, eqb-true}
+use borrow.Author.Tests.{le-leb, eqb-true}
 use lib.Dec.{eqb, leb}
 use lib.ListN.{length, drop, length-append}
 use Rattle.base.specs.declared.error.Area.TheVariants.{Header, Parameters}
@@ -26,7 +26,7 @@ use Rattle.frame.specs.declared.session.Session.{Session}
 use Rattle.frame.specs.Answer.{response_of, frame_of, response_by_value, Signed, signed}
 use Rattle.frame.specs.Areas.{handle_area, sized_area}
 use Rattle.frame.specs.Command.{Division}
-use Rattle.frame.specs.Header.{tag_of, size_of, code_of, plain, sessions, is_rsp_command, reads, is_response_tag, read_rc, frame_whole, read_response_tag}
+use Rattle.frame.specs.Header.{tag_of, size_of, code_of, sessions, is_rsp_command, reads, is_response_tag, read_rc, frame_whole, read_response_tag}
 use Rattle.frame.specs.Layout.{
   Frame,
   WellFormed,
@@ -43,6 +43,7 @@ use Rattle.frame.specs.Response.{judge_response, cast_response, error_areas, suc
 use Rattle.frame.specs.Rules.{Rulebook}
 use Rattle.frame.specs.Walk.{walk, by_value}
 use Rattle.frame.proofs.BadTags.{success_reads, success_two, error_parted, erring}
+use Rattle.frame.proofs.ErrorAreas.{error_taken, error_passes}
 use Rattle.frame.proofs.Divides.{Divides, divides_by_value}
 use Rattle.frame.proofs.Divisions.{entries_of_lem, signed_of}
 use Rattle.frame.proofs.FrameLaws.{
@@ -95,23 +96,6 @@ success_taken responses s ten e =
 success_passes : (responses : ℕ) (s : List ℕ) {areas : Areas} → Succeeded responses s areas → success_areas responses s ≡ gives areas
 unfolding success_areas
 success_passes responses s t = rw (handles_complete s responses t.room) t.sized
-
--- and an error
-module _ (book : Rulebook) (s : List ℕ) where
-  abbrev for_error : Bool
-  for_error = eqb (tag_of s) plain || is_rsp_command book (tag_of s)
-
-  error_taken : {areas : Areas} → error_areas book s ≡ gives areas
-      → (for_error ≡ true) × (length s ≤ 10) × (record { handles = 10; from = 10; to = 10 } ≡ areas)
-  unfolding error_areas
-  error_taken e =
-      let tagged = needs_gives for_error _ _ e in
-      let bare = needs_gives (leb (length s) 10) _ _ tagged.1 in
-      (tagged.0, leb-true (length s) 10 bare.0, gives_injective bare.1)
-
-  error_passes : for_error ≡ true → length s ≤ 10 → error_areas book s ≡ gives (record { handles = 10; from = 10; to = 10 })
-  unfolding error_areas
-  error_passes q h = simp (q, le-leb (length s) 10 h)
 
 -- ---- a response to the command of a code
 

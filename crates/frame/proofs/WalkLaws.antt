@@ -1,23 +1,22 @@
 -- The walk over the entries of an authorization area passes exactly on the layout of whole entries, no more of them than may come, that
 -- fills what is left; and what it tells are these entries.
 -- Assumes nothing.
-use mathlib.Core.Path.{◌≡◌, refl, subst, sym, ◌∙◌}
+use mathlib.Core.Path.{◌≡◌, refl, sym, ◌∙◌}
 use mathlib.Core.List.{List, [], ◌∷◌}
-use mathlib.Core.Logic.{inl, inr}
 use Prim.Native.Nat.{ℕ, zero, suc, ◌+◌, ◌≤◌}
 use native.Mathlib.Omega.{arith}
-use borrow.Author.Tests.{le-leb, lt-leb, leb-true}
-use lib.Dec.{leb}
+use borrow.Author.Tests.{le-leb, lt-leb}
 use lib.ListN.{length, take, length-append}
 use Rattle.base.specs.Bytes.{AreBytes}
 use Rattle.base.specs.Said.{gives, done}
-use Rattle.base.proofs.Checks.{needs_gives, then_gives, cond_gives, done_gives, gives_injective}
+use Rattle.base.proofs.Checks.{done_gives}
 use Rattle.base.proofs.Places.{At, at_moved, at_first, at_second, at_both, read_within}
 use Rattle.frame.specs.declared.session.Field.{Field}
 use Rattle.frame.specs.declared.session.Session.{Session}
 use Rattle.frame.specs.Layout.{Entry, layout_entry, layout_entries, WholeEntries}
 use Rattle.frame.specs.Parts.{entry_in, entries_in, NoLonger, Kept, EachField}
-use Rattle.frame.specs.Walk.{read_entry, walk, behind}
+use Rattle.frame.specs.Walk.{walk, behind}
+use Rattle.frame.proofs.Passes.{Passes, ended, passed, passes}
 use Rattle.frame.proofs.EntryLaws.{length_entry, entry_starts, entry_inside, entry_by, entry_sound, entry_complete}
 
 -- nothing is left: no entry
@@ -25,25 +24,6 @@ pub walk_end : (limit k width : ℕ) (s : List ℕ) (place : ℕ) → length s �
 unfolding walk
 walk_end limit zero width s place h = simp (le-leb (length s) place h)
 walk_end limit (suc k) width s place h = simp (le-leb (length s) place h)
-
--- how a walk that passes has gone: nothing was left, or an entry was read and the walk went on behind it
-data Passes (limit width : ℕ) (s : List ℕ) : ℕ → ℕ → List Session → Type 0 where
-  ended : {k place : ℕ} → length s ≤ place → Passes limit width s k place []
-  passed : {k place : ℕ} {e : Session} {es : List Session} → read_entry limit width s place ≡ gives e → Passes limit width s k (behind e) es
-      → Passes limit width s (suc k) place (e ∷ es)
-
-passes : (limit k width : ℕ) (s : List ℕ) (place : ℕ) {es : List Session} → walk limit k width s place ≡ gives es → Passes limit width s k place es
-unfolding walk
-passes limit zero width s place e =
-    let end = needs_gives (leb (length s) place) _ _ e in
-    subst (Passes limit width s zero place) (gives_injective end.1) (ended (leb-true (length s) place end.0))
-passes limit (suc k) width s place e = elim (cond_gives (leb (length s) place) _ _ e) [
-  | inl end ↦ subst (Passes limit width s (suc k) place) (gives_injective end.1) (ended (leb-true (length s) place end.0))
-  | inr more ↦
-      let one = then_gives (read_entry limit width s place) _ more.1 in
-      let rest = then_gives (walk limit k width s (behind one.0)) _ one.2 in
-      subst (Passes limit width s (suc k) place) (gives_injective rest.2) (passed one.1 (passes limit k width s (behind one.0) rest.1))
-]
 
 -- no more entries than may come
 few : {limit width : ℕ} {s : List ℕ} {k place : ℕ} {es : List Session} → Passes limit width s k place es → length es ≤ k

@@ -2,7 +2,6 @@
 -- Assumes nothing.
 use Rattle.frame.proofs.Divisions.{handles_short, handles_read}
 use native.Mathlib.Omega.{arith}
-use Rattle.std.proofs.Common.{rules}
 use Rattle.frame.proofs.areas.handle_area.Goals as goal
 
 pub returns-then-left-needed : goal.returns-then-left-needed

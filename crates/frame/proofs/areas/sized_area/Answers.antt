@@ -1,10 +1,8 @@
 -- `frame::areas::sized_area` meets its contract: the size is a field that was read, and the test on what is left decides as the definition does.
 -- Assumes nothing.
-use Rattle.frame.proofs.Divisions.{sized_plain, size_refused, sized_short, sized_read, size_there}
+use Rattle.frame.proofs.Divisions.{sized_plain, size_refused, sized_short, sized_read}
 use Rattle.base.proofs.Answers.{learnt}
 use Rattle.base.specs.Answer.{said_number32}
-use native.Mathlib.Omega.{arith}
-use Rattle.std.proofs.Common.{rules}
 use Rattle.frame.proofs.areas.sized_area.Goals as goal
 
 pub returns-then-left-size : goal.returns-then-left-size

@@ -9,7 +9,6 @@ use Rattle.base.proofs.Answers.{learnt}
 use Rattle.base.proofs.Checks.{stops}
 use Rattle.frame.proofs.Headers.{tag_bytes}
 use Rattle.frame.proofs.Divisions.{command_header, areas_tag_refused, areas_sized}
-use Rattle.std.proofs.Common.{rules}
 use Rattle.frame.proofs.command.areas.Goals as goal
 
 pub bounds-s-0 : goal.bounds-s-0

@@ -4,7 +4,6 @@ use Rattle.frame.specs.Command.{command_areas, auth_range}
 use Rattle.frame.specs.Answer.{said_areas}
 use Rattle.base.proofs.Answers.{learnt}
 use Rattle.base.proofs.Checks.{goes_on, stops}
-use Rattle.std.proofs.Common.{rules}
 use Rattle.frame.proofs.command.auth_area_range.Goals as goal
 
 pub returns-in-Refused : goal.returns-in-Refused

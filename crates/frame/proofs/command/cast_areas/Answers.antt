@@ -6,7 +6,6 @@ use Rattle.frame.specs.Command.{cast_command}
 use Rattle.base.specs.Answer.{said_count}
 use Rattle.base.proofs.Answers.{learnt}
 use Rattle.base.proofs.Checks.{goes_on, stops}
-use Rattle.std.proofs.Common.{rules}
 use Rattle.frame.proofs.command.cast_areas.Goals as goal
 
 pub returns-in-Refused : goal.returns-in-Refused

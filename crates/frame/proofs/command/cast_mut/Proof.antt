@@ -2,8 +2,6 @@
 -- Assumes nothing.
 use Prim.Native.Nat.{ℕ}
 use mathlib.Core.List.{List}
-use lib.ListN.{length}
-use Rattle.base.specs.Parts.{behind, up_to}
 use Rattle.base.specs.Answer.{Part}
 use Rattle.base.specs.Said.{Said}
 use Rattle.frame.specs.Answer.{whole}

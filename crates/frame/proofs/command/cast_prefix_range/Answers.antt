@@ -11,7 +11,6 @@ use Rattle.frame.specs.Answer.{said_areas}
 use Rattle.base.proofs.Answers.{learnt}
 use Rattle.base.proofs.Checks.{goes_on, stops}
 use Rattle.frame.proofs.Headers.{prefix_fits}
-use Rattle.std.proofs.Common.{rules}
 use Rattle.frame.proofs.command.cast_prefix_range.Goals as goal
 
 pub slice_bounds-judge-end : goal.slice_bounds-judge-end

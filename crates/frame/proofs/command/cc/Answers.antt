@@ -4,7 +4,6 @@ use mathlib.Core.Path.{ap, sym, ◌∙◌}
 use Rattle.base.specs.Said.{refuses}
 use Rattle.frame.specs.Header.{read_cc}
 use Rattle.frame.proofs.Headers.{short_header, code_bytes, cc_read, cc_refused}
-use Rattle.std.proofs.Common.{rules}
 use Rattle.frame.proofs.command.cc.Goals as goal
 
 pub returns-then-s-lt-HEADER_SIZE : goal.returns-then-s-lt-HEADER_SIZE

@@ -8,7 +8,6 @@ use Rattle.frame.specs.Answer.{areas_of, said_areas}
 use Rattle.frame.specs.Command.{cast_command, read_command}
 use Rattle.frame.specs.Rules.{book_of}
 use Rattle.frame.proofs.Divisions.{command_entries, areas_refused, walk_refused, walk_done, cast_fits}
-use Rattle.std.proofs.Common.{rules}
 use Rattle.frame.proofs.command.divide.Goals as goal
 
 pub slice_bounds-walk-end : goal.slice_bounds-walk-end

@@ -12,7 +12,6 @@ use Rattle.table.proofs.Table.{is_table}
 use Rattle.base.proofs.Answers.{learnt}
 use Rattle.base.proofs.Checks.{goes_on, stops}
 use Rattle.frame.proofs.Headers.{short_header, code_bytes, cc_read, cc_refused}
-use Rattle.std.proofs.Common.{rules}
 use Rattle.frame.proofs.command.handles_end.Goals as goal
 
 pub returns-then-s-lt-HEADER_SIZE : goal.returns-then-s-lt-HEADER_SIZE

@@ -4,7 +4,6 @@ use Rattle.frame.specs.Command.{command_handles, handles_range}
 use Rattle.base.specs.Answer.{said_count}
 use Rattle.base.proofs.Answers.{learnt}
 use Rattle.base.proofs.Checks.{goes_on, stops}
-use Rattle.std.proofs.Common.{rules}
 use Rattle.frame.proofs.command.handles_range.Goals as goal
 
 pub returns-in-Refused : goal.returns-in-Refused

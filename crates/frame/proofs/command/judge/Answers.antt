@@ -7,7 +7,6 @@ use Rattle.base.specs.Answer.{said_count, said_tag}
 use Rattle.base.proofs.Answers.{learnt}
 use Rattle.base.proofs.Checks.{goes_on, stops}
 use Rattle.frame.proofs.Divisions.{judged_sized}
-use Rattle.std.proofs.Common.{rules}
 use Rattle.frame.proofs.command.judge.Goals as goal
 
 pub returns-in-Refused : goal.returns-in-Refused

@@ -1,15 +1,13 @@
 -- `frame::command::parts` meets its contract: it goes by what `divide` said, and the entries that passed are read again; tag and code are read
 -- byte by byte.
 -- Assumes nothing.
-use mathlib.Core.Path.{ap, ◌∙◌, sym}
+use mathlib.Core.Path.{◌∙◌, sym}
 use native.Mathlib.Omega.{arith}
 use lib.Seq.{length-take-le}
 use Rattle.base.proofs.Answers.{learnt}
-use Rattle.frame.specs.Answer.{command_by_value, command_of, said_areas}
-use Rattle.frame.specs.Command.{read_command}
-use Rattle.frame.proofs.Divisions.{CommandTold, command_told, not_divided, by_value_lem, cast_fits}
+use Rattle.frame.specs.Answer.{command_of, said_areas}
+use Rattle.frame.proofs.Divisions.{command_told, by_value_lem, cast_fits}
 use Rattle.frame.proofs.Headers.{tag_bytes, code_bytes}
-use Rattle.std.proofs.Common.{rules}
 use Rattle.frame.proofs.command.parts.Goals as goal
 
 pub bounds-s-0 : goal.bounds-s-0

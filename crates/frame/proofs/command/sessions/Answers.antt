@@ -1,15 +1,13 @@
 -- `frame::command::sessions` meets its contract: it goes by what `divide` said, and the entries that passed are read again; the code is read
 -- byte by byte.
 -- Assumes nothing.
-use mathlib.Core.Path.{ap, ◌∙◌, sym}
+use mathlib.Core.Path.{◌∙◌, sym}
 use native.Mathlib.Omega.{arith}
 use lib.Seq.{length-take-le}
 use Rattle.base.proofs.Answers.{learnt}
-use Rattle.frame.specs.Answer.{said_areas, signed}
-use Rattle.frame.specs.Command.{read_command}
-use Rattle.frame.proofs.Divisions.{CommandTold, command_told, not_divided, signed_read, cast_fits}
+use Rattle.frame.specs.Answer.{said_areas}
+use Rattle.frame.proofs.Divisions.{command_told, signed_read, cast_fits}
 use Rattle.frame.proofs.Headers.{code_bytes}
-use Rattle.std.proofs.Common.{rules}
 use Rattle.frame.proofs.command.sessions.Goals as goal
 
 pub bounds-s-6 : goal.bounds-s-6

@@ -6,7 +6,6 @@ use Rattle.frame.specs.Header.{set_cc}
 use Rattle.table.specs.Table.{said_found}
 use Rattle.base.proofs.Answers.{learnt}
 use Rattle.frame.proofs.Headers.{short_header, refused_set, set_by, cc_set, cc_not_set}
-use Rattle.std.proofs.Common.{rules}
 use Rattle.frame.proofs.command.set_cc.Goals as goal
 
 pub returns-then-s-lt-HEADER_SIZE-clause-answer : goal.returns-then-s-lt-HEADER_SIZE-clause-answer

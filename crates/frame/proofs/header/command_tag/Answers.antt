@@ -4,7 +4,6 @@ use mathlib.Core.Path.{ap, sym, ◌∙◌}
 use Rattle.base.specs.Said.{refuses}
 use Rattle.frame.specs.Header.{is_of_two, read_command_tag}
 use Rattle.frame.proofs.Headers.{short_header, tag_bytes, tag_read, tag_refused}
-use Rattle.std.proofs.Common.{rules}
 use Rattle.frame.proofs.header.command_tag.Goals as goal
 
 pub returns-then-s-lt-HEADER_SIZE : goal.returns-then-s-lt-HEADER_SIZE

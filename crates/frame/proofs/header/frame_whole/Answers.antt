@@ -3,7 +3,6 @@
 use Rattle.base.specs.Answer.{said_count}
 use Rattle.base.proofs.Answers.{learnt}
 use Rattle.frame.proofs.Headers.{trailing, whole_read, whole_refused}
-use Rattle.std.proofs.Common.{rules}
 use Rattle.frame.proofs.header.frame_whole.Goals as goal
 
 pub returns-then-n-s : goal.returns-then-n-s

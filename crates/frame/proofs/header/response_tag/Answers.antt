@@ -5,7 +5,6 @@ use Rattle.base.specs.Said.{refuses}
 use Rattle.frame.specs.Header.{is_response_tag, read_response_tag}
 use Rattle.frame.specs.Rules.{book_of}
 use Rattle.frame.proofs.Headers.{short_header, tag_bytes, tag_read, tag_refused}
-use Rattle.std.proofs.Common.{rules}
 use Rattle.frame.proofs.header.response_tag.Goals as goal
 
 pub returns-then-s-lt-HEADER_SIZE : goal.returns-then-s-lt-HEADER_SIZE

@@ -4,7 +4,6 @@ use mathlib.Core.Path.{ap, sym, ◌∙◌}
 use Rattle.base.specs.Said.{refuses}
 use Rattle.frame.specs.Header.{set_tag}
 use Rattle.frame.proofs.Headers.{short_header, refused_set, set_by, tag_set, tag_not_set}
-use Rattle.std.proofs.Common.{rules}
 use Rattle.frame.proofs.header.set_tag.Goals as goal
 
 pub returns-then-s-lt-HEADER_SIZE-clause-answer : goal.returns-then-s-lt-HEADER_SIZE-clause-answer

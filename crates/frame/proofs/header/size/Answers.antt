@@ -4,7 +4,6 @@ use mathlib.Core.Path.{ap, ◌∙◌}
 use Rattle.base.specs.Said.{refuses}
 use Rattle.frame.specs.Header.{read_size}
 use Rattle.frame.proofs.Headers.{short_header, size_bytes, size_read}
-use Rattle.std.proofs.Common.{rules}
 use Rattle.frame.proofs.header.size.Goals as goal
 
 pub returns-then-s-lt-HEADER_SIZE : goal.returns-then-s-lt-HEADER_SIZE

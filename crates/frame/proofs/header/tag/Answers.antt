@@ -6,7 +6,6 @@ use Rattle.base.specs.Said.{refuses}
 use Rattle.table.specs.Tags.{tags}
 use Rattle.frame.specs.Header.{read_tag}
 use Rattle.frame.proofs.Headers.{short_header, tag_bytes, tag_read, tag_refused}
-use Rattle.std.proofs.Common.{rules}
 use Rattle.frame.proofs.header.tag.Goals as goal
 
 pub returns-then-s-lt-HEADER_SIZE : goal.returns-then-s-lt-HEADER_SIZE

@@ -9,7 +9,6 @@ use Rattle.frame.specs.Response.{cast_response, response_areas}
 use Rattle.base.proofs.Answers.{learnt}
 use Rattle.base.proofs.Checks.{stops}
 use Rattle.frame.proofs.Divisions.{response_header, areas_no_row, areas_success, areas_error}
-use Rattle.std.proofs.Common.{rules}
 use Rattle.frame.proofs.response.areas.Goals as goal
 
 pub success_areas-requires : goal.success_areas-requires

@@ -4,7 +4,6 @@ use mathlib.Core.Path.{ap, ◌∙◌}
 use Rattle.base.specs.Said.{refuses}
 use Rattle.frame.specs.Response.{body_range}
 use Rattle.frame.proofs.Headers.{short_header, has_header}
-use Rattle.std.proofs.Common.{rules}
 use Rattle.frame.proofs.response.body_range.Goals as goal
 
 pub returns-then-s-lt-HEADER_SIZE : goal.returns-then-s-lt-HEADER_SIZE

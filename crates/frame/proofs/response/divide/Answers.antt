@@ -7,7 +7,6 @@ use Rattle.frame.specs.Answer.{areas_of, said_areas}
 use Rattle.frame.specs.Response.{response_areas, read_response}
 use Rattle.frame.specs.Rules.{book_of}
 use Rattle.frame.proofs.Divisions.{response_entries, areas_refused, walk_refused, walk_done}
-use Rattle.std.proofs.Common.{rules}
 use Rattle.frame.proofs.response.divide.Goals as goal
 
 pub returns-in-Refused : goal.returns-in-Refused

@@ -4,7 +4,6 @@ use mathlib.Core.Path.{ap, sym, ◌∙◌}
 use Rattle.base.specs.Said.{refuses}
 use Rattle.frame.proofs.Headers.{tag_bytes}
 use Rattle.frame.proofs.Divisions.{error_tag_lem, error_long, error_read}
-use Rattle.std.proofs.Common.{rules}
 use Rattle.frame.proofs.response.error_areas.Goals as goal
 
 pub returns-then-s-gt-HEADER_SIZE : goal.returns-then-s-gt-HEADER_SIZE

@@ -6,7 +6,6 @@ use Rattle.frame.specs.Response.{judge_response}
 use Rattle.base.specs.Answer.{said_tag}
 use Rattle.base.proofs.Answers.{learnt}
 use Rattle.base.proofs.Checks.{goes_on, stops}
-use Rattle.std.proofs.Common.{rules}
 use Rattle.frame.proofs.response.judge.Goals as goal
 
 pub returns-in-Refused : goal.returns-in-Refused

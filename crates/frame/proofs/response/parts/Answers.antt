@@ -1,14 +1,12 @@
 -- `frame::response::parts` meets its contract: it goes by what `divide` said, and the entries that passed are read again; tag and code are read
 -- byte by byte.
 -- Assumes nothing.
-use mathlib.Core.Path.{ap, ◌∙◌}
+use mathlib.Core.Path.{◌∙◌}
 use native.Mathlib.Omega.{arith}
 use Rattle.base.proofs.Answers.{learnt}
-use Rattle.frame.specs.Answer.{response_by_value, response_of, said_areas}
-use Rattle.frame.specs.Response.{read_response}
-use Rattle.frame.proofs.Divisions.{ResponseTold, response_told, not_divided, by_value_lem}
+use Rattle.frame.specs.Answer.{response_of, said_areas}
+use Rattle.frame.proofs.Divisions.{response_told, by_value_lem}
 use Rattle.frame.proofs.Headers.{tag_bytes, code_bytes}
-use Rattle.std.proofs.Common.{rules}
 use Rattle.frame.proofs.response.parts.Goals as goal
 
 pub bounds-s-0 : goal.bounds-s-0

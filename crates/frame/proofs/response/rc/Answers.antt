@@ -5,7 +5,6 @@ use Rattle.base.specs.Said.{refuses}
 use Rattle.frame.specs.Header.{read_rc}
 use Rattle.frame.specs.Rules.{book_of}
 use Rattle.frame.proofs.Headers.{short_header, tag_bytes, code_bytes, rc_read, rc_refused}
-use Rattle.std.proofs.Common.{rules}
 use Rattle.frame.proofs.response.rc.Goals as goal
 
 pub returns-then-s-lt-HEADER_SIZE : goal.returns-then-s-lt-HEADER_SIZE

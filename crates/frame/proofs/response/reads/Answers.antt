@@ -1,13 +1,9 @@
 -- `frame::response::reads` meets its contract: under the tag of the answer to a bad tag the code is compared with that answer's; under
 -- another it reads as it does by itself, and success does.
 -- Assumes nothing.
-use mathlib.Core.Path.{ap, sym, ◌∙◌}
-use Rattle.base.specs.Said.{given}
-use Rattle.rc.specs.Code.{said_code}
-use Rattle.base.proofs.Answers.{learnt}
+use mathlib.Core.Path.{sym, ◌∙◌}
 use Rattle.frame.specs.Rules.{book_of}
-use Rattle.frame.proofs.BadTags.{reads_bad_tag, reads_success, reads_plainly}
-use Rattle.std.proofs.Common.{rules}
+use Rattle.frame.proofs.BadTags.{reads_success}
 use Rattle.frame.proofs.response.reads.Goals as goal
 
 pub returns-then-rc-eq0 : goal.returns-then-rc-eq0

@@ -1,14 +1,12 @@
 -- `frame::response::sessions` meets its contract: it goes by what `divide` said, and the entries that passed are read again; the code is read
 -- byte by byte.
 -- Assumes nothing.
-use mathlib.Core.Path.{ap, ◌∙◌}
+use mathlib.Core.Path.{◌∙◌}
 use native.Mathlib.Omega.{arith}
 use Rattle.base.proofs.Answers.{learnt}
-use Rattle.frame.specs.Answer.{said_areas, signed}
-use Rattle.frame.specs.Response.{read_response}
-use Rattle.frame.proofs.Divisions.{ResponseTold, response_told, not_divided, signed_read}
+use Rattle.frame.specs.Answer.{said_areas}
+use Rattle.frame.proofs.Divisions.{response_told, signed_read}
 use Rattle.frame.proofs.Headers.{code_bytes}
-use Rattle.std.proofs.Common.{rules}
 use Rattle.frame.proofs.response.sessions.Goals as goal
 
 pub bounds-s-6 : goal.bounds-s-6

@@ -6,7 +6,6 @@ use Rattle.base.specs.Said.{refuses}
 use Rattle.frame.specs.Header.{set_rc}
 use Rattle.frame.specs.Rules.{book_of}
 use Rattle.frame.proofs.Headers.{short_header, tag_bytes, refused_set, set_by, rc_set, rc_not_set}
-use Rattle.std.proofs.Common.{rules}
 use Rattle.frame.proofs.response.set_rc.Goals as goal
 
 pub returns-then-s-lt-HEADER_SIZE-clause-answer : goal.returns-then-s-lt-HEADER_SIZE-clause-answer

@@ -12,7 +12,6 @@ use Rattle.base.specs.Answer.{said_count}
 use Rattle.base.proofs.Answers.{learnt}
 use Rattle.base.proofs.Checks.{goes_on, stops}
 use Rattle.frame.proofs.Headers.{tag_bytes}
-use Rattle.std.proofs.Common.{rules}
 use Rattle.frame.proofs.response.success_areas.Goals as goal
 
 pub returns-in-Refused : goal.returns-in-Refused

@@ -1,13 +1,10 @@
 -- `frame::walk::behind_entry` meets its contract: each return is the case of the definition to which its tests lead.
 -- Assumes nothing.
 use mathlib.Core.Path.{◌∙◌, ap}
-use native.Mathlib.Omega.{arith}
-use Rattle.base.specs.declared.error.Area.TheVariants.{Authorization}
 use Rattle.base.specs.Answer.{said_number32}
 use Rattle.base.proofs.Answers.{learnt}
 use Rattle.frame.specs.Answer.{behind_of}
-use Rattle.frame.proofs.Walks.{field_there_lem, handle_aside, handle_refused, handle_read, no_handle}
-use Rattle.std.proofs.Common.{rules}
+use Rattle.frame.proofs.Walks.{handle_aside, handle_refused, handle_read, no_handle}
 use Rattle.frame.proofs.walk.behind_entry.Goals as goal
 
 pub returns-in-Refused : goal.returns-in-Refused

@@ -10,7 +10,6 @@ use Rattle.base.proofs.Answers.{learnt}
 use Rattle.frame.specs.Answer.{behind_of}
 use Rattle.frame.proofs.EntryLaws.{tpm2b_fits}
 use Rattle.frame.proofs.Walks.{nonce_refused, attributes_refused, hmac_refused, signed_read}
-use Rattle.std.proofs.Common.{rules}
 use Rattle.frame.proofs.walk.behind_signed.Goals as goal
 
 -- the nonce that was read stands within the bytes

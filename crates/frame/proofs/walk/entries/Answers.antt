@@ -2,15 +2,14 @@
 -- The measure is how many of three are left.
 -- Assumes nothing.
 use mathlib.Core.Path.{sym}
-use Prim.Native.Nat.{◌-◌, ◌≤◌}
+use Prim.Native.Nat.{◌≤◌}
 use native.Mathlib.Omega.{arith}
 use lib.ListN.{length}
 use Rattle.frame.specs.Answer.{handle_width}
 use Rattle.frame.specs.Rules.{unlimited}
 use Rattle.frame.specs.Walk.{behind}
 use Rattle.frame.proofs.EntryLaws.{entry_inside}
-use Rattle.frame.proofs.Walks.{Found, none_found, found_few, all_found, one_there, one_found, with_first, with_second, with_third}
-use Rattle.std.proofs.Common.{rules}
+use Rattle.frame.proofs.Walks.{none_found, found_few, all_found, one_there, one_found, with_first, with_second, with_third}
 use Rattle.frame.proofs.walk.entries.Goals as goal
 
 pub loop-at-init : goal.loop-at-init

@@ -7,7 +7,6 @@ use lib.ListN.{length}
 use Rattle.base.specs.declared.error.Area.TheVariants.{Authorization}
 use Rattle.base.specs.Said.{done}
 use Rattle.frame.proofs.Walks.{four_bytes, handle_there, handle_read, no_handle}
-use Rattle.std.proofs.Common.{rules}
 use Rattle.frame.proofs.walk.entry_at.Goals as goal
 
 -- the handle stands within the bytes

@@ -4,7 +4,6 @@ use Prim.Native.Nat.{◌+◌, ◌≤◌}
 use native.Mathlib.Omega.{arith}
 use lib.ListN.{length}
 use Rattle.frame.proofs.Walks.{nonce_there, hmac_there, signed_there}
-use Rattle.std.proofs.Common.{rules}
 use Rattle.frame.proofs.walk.signed_at.Goals as goal
 
 -- the size of the nonce stands within the bytes, and so does all up to the size of the HMAC

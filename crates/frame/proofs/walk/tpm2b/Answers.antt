@@ -6,7 +6,6 @@ use Rattle.base.specs.declared.error.Area.TheVariants.{Authorization}
 use Rattle.base.specs.Answer.{said_number16}
 use Rattle.base.proofs.Answers.{learnt}
 use Rattle.frame.proofs.Walks.{field_there_lem, goes_by, tpm2b_refused, tpm2b_long, tpm2b_short, tpm2b_read}
-use Rattle.std.proofs.Common.{rules}
 use Rattle.frame.proofs.walk.tpm2b.Goals as goal
 
 pub returns-in_default-clause-result_value : goal.returns-in_default-clause-result_value

@@ -1,13 +1,11 @@
 -- `frame::walk::walk` meets its contract: the invariant of its loop has the count of the entries up to a place, from where the walk goes
 -- on. The measure is how many of three are left.
 -- Assumes nothing.
-use Prim.Native.Nat.{◌-◌}
 use native.Mathlib.Omega.{arith}
 use Rattle.base.specs.Answer.{said_count}
 use Rattle.base.proofs.Answers.{learnt}
 use Rattle.frame.specs.Answer.{handle_width}
-use Rattle.frame.proofs.Walks.{Counted, none_counted, one_to_come, all_counted, one_too_many, entry_refused, one_counted}
-use Rattle.std.proofs.Common.{rules}
+use Rattle.frame.proofs.Walks.{none_counted, one_to_come, all_counted, one_too_many, entry_refused, one_counted}
 use Rattle.frame.proofs.walk.walk.Goals as goal
 
 pub loop-at-init : goal.loop-at-init

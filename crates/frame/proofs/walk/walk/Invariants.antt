@@ -1,10 +1,6 @@
 use Prim.Native.Nat.{◌-◌}
-use native.Mathlib.Omega.{arith}
-use Rattle.base.specs.Answer.{said_count}
-use Rattle.base.proofs.Answers.{learnt}
 use Rattle.frame.specs.Answer.{handle_width}
-use Rattle.frame.proofs.Walks.{Counted, none_counted, one_to_come, all_counted, one_too_many, entry_refused, one_counted}
-use Rattle.std.proofs.Common.{rules}
+use Rattle.frame.proofs.Walks.{Counted}
 use Rattle.frame.proofs.walk.walk.Given as goal
 
 abbrev pub invariant-loop-at : goal.invariant-loop-at
