@@ -9,41 +9,45 @@ use mathlib.Core.List.{List, [], ◌∷◌}
 use lib.Dec.{T as Holds}
 use lib.ListN.{length}
 use seplogic.Ra.Ura.{Ura}
-use mir.Syntax.{Name, Fn, named, erased, mut, w8, ty_int, ty_ref, deref, field, place, local, value_local, copy, rv_opd, addr_of, aggregate, assign, seq, call, return}
+use mir.Syntax.{Callee as Called, Fn, named, erased, mut, w8, ty_int, ty_ref, deref, field, place, local, value_local, copy, rv_opd, addr_of, aggregate, assign, seq, call, return}
 use mir.Val.{Val, WT, has_ty}
 use base.Logic.{SProp, ent}
 use base.Fml.{Lft, Share, ftrue, flft}
-use prog.Wp.{Calls, Loops, WpFn, Tables}
+use prog.Wp.{Calls, Loops, WpFn, Closed}
+use prog.Model.{Model}
 use types.Logic.{Logic}
 use contract.Lifetimes.{Lfts}
+use contract.Running.{Running, MachineTables, tables}
 use types.Kit.{‵, raw, ◌⊛◌, ◌$◌, ◌∵◌, !, qed, by, move, use1, fsplit, fjoin, join, frame, done}
 use types.Part.{agg, whole, sub, look_in}
 use types.Run.{look, init, forget, stop, hop, fld, from, load, addr, of_opd, and_then, no_more, assigns, land, returns, enter, alloc1, alloc0, params1, pass1, pass0, free1, free0}
-use sound.WpLaws.{FmC, fm_of}
+use sound.WpLaws.{FmC}
 use denote.RattleType.{owns}
 use denote.Laws.{Is}
 use denote.Builtin.{u8}
-use denote.Ref.{Bor}
+use denote.Ref.{MutBor}
 use denote.Slice.{slice_ty, mut_slice_Lawful, Room}
 use denote.Steps.{owned}
 use denote.Triple.Statement.{Contract, Triple}
 use denote.Triple.Call.{calls_at}
 use denote.Triple.Spec.{Meets}
 use denote.Triple.Clauses.{closing}
+use denote.Triple.Table.{framed}
 use Rattle.base.specs.Answer.{Part}
 use Rattle.base.specs.Said.{Said}
-use Rattle.view.proofs.Holding.{Plain, IsPlain, valued}
-use Rattle.view.proofs.HoldingMut.{HolderMut, Bytes, Handed, lowered, spelt, holder_mut}
-use Rattle.view.proofs.Walking.{Param, Args, by_value_lem, lent_mut, ended, clauses, Promises, asked, Entry, Post, answered, ends, meets}
+use Rattle.view.proofs.HoldingMut.{HolderMut, Plain, IsPlain, valued, Bytes, Handed, lowered, spelt, holder_mut}
+use Rattle.view.proofs.Walking.{Param, Args, by_value, lent_mut, ended, clauses, Promises, asked, Entry, Post, answered, ends, meets}
 
-module _ {X : Plain} (B : HolderMut X true) (g : Name) (ρ : X.by.row.Denot → List ℕ → Said Part) where
+module _ {X : Plain} (B : HolderMut X true) (g : Called) (ρ : X.by.row.Denot → List ℕ → Said Part) where
   abbrev passed : List Param
-  passed = by_value_lem X.by ∷ lent_mut ∷ []
+  passed = by_value X.by ∷ lent_mut ∷ []
 
   abbrev pub function : Fn
   function = record {
     lifetimes = 1;
     outlives = [];
+    ty_params = [];
+    givens = 0;
     params = 1;
     locals = local (slice_ty (ty_ref (named 0) mut (ty_int w8))) value_local
         ∷ local (spelt B) value_local
@@ -61,17 +65,17 @@ module _ {X : Plain} (B : HolderMut X true) (g : Name) (ρ : X.by.row.Denot → 
   module _ {M : Type 1} {𝓤 : Ura M} (𝓛 : Logic 𝓤) where
     open 𝓛 use {H}
 
-    abbrev Told : (κs : Lfts 1) → Args κs passed → Bor (List ℕ) → SProp 𝓤
-    Told κs a r = Handed 𝓛 κs (ρ a.0 a.1.0.now) a.1.0 r
+    abbrev Told : (κs : Lfts 1) → Args κs passed → MutBor (List ℕ) → SProp 𝓤
+    Told κs a r = Handed 𝓛 (ρ a.0 a.1.0.now) a.1.0 r
 
-    abbrev Tells : (κs : Lfts 1) → Args κs (holder_mut B ∷ []) → Bor (List ℕ) → SProp 𝓤
-    Tells κs a r = Handed 𝓛 κs (ρ (B.beside κs a.0) (B.frame κs a.0).now) (B.frame κs a.0) r
+    abbrev Tells : (κs : Lfts 1) → Args κs (holder_mut B ∷ []) → MutBor (List ℕ) → SProp 𝓤
+    Tells κs a r = Handed 𝓛 (ρ (B.beside κs a.0) (B.frame κs a.0).now) (B.frame κs a.0) r
 
     abbrev pub Callee : Contract 𝓤
     Callee = Promises passed Bytes 𝓛 Told
 
     module _ (κ : Lft) (q : Share) (d : (B.row (κ, tt)).Denot) where
-      abbrev x : Bor (List ℕ)
+      abbrev x : MutBor (List ℕ)
       x = B.frame (κ, tt) d
 
       abbrev y : X.by.row.Denot
@@ -106,8 +110,12 @@ module _ {X : Plain} (B : HolderMut X true) (g : Name) (ρ : X.by.row.Denot → 
             move ! (11 ∷ 12 ∷ []) $ free1 ! $ move ! (9 ∷ 10 ∷ []) $ free1 ! $ move ! (7 ∷ 8 ∷ []) $ free1 ! $ move ! (5 ∷ 6 ∷ []) $ free1 ! $ move ! (3 ∷ 4 ∷ []) $ free1 ! $ free0 ! $
             by ! (ends (holder_mut B ∷ []) Bytes 𝓛 Tells κ q (d, tt) r u))))))))
 
-    pub gives_up_by : (𝓣 : Tables 𝓤 H) → Triple 𝓤 (𝓣.C g) Callee
-        → Meets 𝓛 (ended (holder_mut B ∷ []) Bytes).signature (WpFn 𝓤 H 𝓣.C 𝓣.Λ function) (closing 𝓛 (ended (holder_mut B ∷ []) Bytes) (clauses (holder_mut B ∷ []) Bytes 𝓛 Tells))
-    gives_up_by 𝓣 known =
-        meets (holder_mut B ∷ []) Bytes 𝓛 Tells function 𝓣 (λ κ q a are.
-        walk κ q a.0 𝓣.C 𝓣.Λ (fm_of 𝓤 H 𝓛.laws 𝓣) known (B.typed 𝓛 (κ, tt) a.0 _ are.0) (B.room (κ, tt) a.0 are.0) (B.known (κ, tt) a.0 are.0))
+    module _ (𝓜 : Model 𝓤 H) (𝓡 : Running 𝓤 H 𝓜) where
+      abbrev 𝓣 : MachineTables 𝓤 H 𝓜
+      𝓣 = tables 𝓤 H 𝓜 𝓡 𝓡.env
+
+      pub gives_up_by : (m : Called) → Closed 𝓤 H 𝓣.C 𝓣.Λ m function → Triple 𝓤 (𝓣.C g) Callee
+          → Meets 𝓛 (ended (holder_mut B ∷ []) Bytes).signature (𝓣.C m) (closing 𝓛 (ended (holder_mut B ∷ []) Bytes) (clauses (holder_mut B ∷ []) Bytes 𝓛 Tells))
+      gives_up_by m closed known =
+          meets (holder_mut B ∷ []) Bytes 𝓛 Tells 𝓜 𝓡 m function closed (λ κ q a are.
+          walk κ q a.0 𝓣.C 𝓣.Λ (framed 𝓤 H 𝓜 𝓣) known (B.typed 𝓛 (κ, tt) a.0 _ are.0) (B.room (κ, tt) a.0 are.0) (B.known (κ, tt) a.0 are.0))

@@ -2,7 +2,7 @@
 -- through its methods asks of it, and the promise of the functions that such a struct is made by and given up to: those that hand out a part of lent
 -- bytes (base, Handing.antt and HandingBy.antt).
 -- Assumes nothing.
-use mathlib.Core.Path.{◌≡◌}
+use mathlib.Core.Path.{◌≡◌, subst}
 use mathlib.Core.Bool.{Bool, true, false}
 use Prim.Native.Nat.{ℕ}
 use mathlib.Core.List.{List, [], ◌∷◌}
@@ -11,31 +11,54 @@ use lib.ListN.{length}
 use seplogic.Ra.Ura.{Ura}
 use mir.Syntax.{Ty, Tys, Sym, named, mut, w8, ty_int, ty_ref, ty_struct, tcons, tnil}
 use mir.Val.{Val, WT, has_ty, vstruct, vcons, of_list}
-use base.Logic.{SProp, ent, sep}
+use base.Logic.{SProp, ent, sep, id⊢}
 use types.Logic.{Logic, sem}
 use contract.Lifetimes.{Lfts}
-use contract.Monad.{fact}
+use contract.Monad.{fact, fact_use}
 use denote.RattleType.{RattleType}
-use denote.Laws.{Is, Tells}
+use denote.Laws.{Is, Makes, Tells, shows}
 use denote.Builtin.{u8}
 use denote.Exit.{Last, no}
 use denote.Ref.{MutBor}
 use denote.Signature.{plain}
-use denote.Slice.{slice_ty, MutSlice, Room}
+use denote.Slice.{slice_ty, slice_val, MutSlice, Room}
 use denote.Triple.Walked.{Goes, stay_dropped}
 use Rattle.base.specs.Answer.{Part}
-use Rattle.base.specs.Parts.{IsPart, Ties}
+use Rattle.base.specs.Parts.{IsPartMut, LendsPart}
 use Rattle.base.specs.Said.{Said}
-use Rattle.view.proofs.Holding.{Plain, IsPlain, valued}
+use Rattle.base.proofs.ByValue.{ByValue}
 use Rattle.view.proofs.Walking.{Param}
+
+-- a slice's machine value
+abbrev pub valued : MutBor (List ℕ) → Val
+valued x = slice_val x.ref_ptr (length x.now)
 
 -- a slice to write to
 abbrev pub Bytes : Lfts 1 → RattleType
 Bytes κs = MutSlice (named 0) κs.0 u8
 
--- r is handed out as the part p of x: it is that part, and it is tied to x
-abbrev pub Handed : {M : Type 1} {𝓤 : Ura M} (𝓛 : Logic 𝓤) → Lfts 1 → Said Part → MutBor (List ℕ) → MutBor (List ℕ) → SProp 𝓤
-Handed {𝓤 = 𝓤} 𝓛 κs p x r = sep 𝓤 (Ties 𝓛 κs p x r) (fact 𝓤 (IsPart p x r))
+-- r is handed out as the part p of x: it is that part, and x follows it
+abbrev pub Handed : {M : Type 1} {𝓤 : Ura M} (𝓛 : Logic 𝓤) → Said Part → MutBor (List ℕ) → MutBor (List ℕ) → SProp 𝓤
+Handed {𝓤 = 𝓤} 𝓛 p x r = sep 𝓤 (sem 𝓛 (LendsPart p x r)) (fact 𝓤 (IsPartMut p x r))
+
+-- a type by value that owns facts alone, so that whoever has a value of it has what it owns as often as it is asked for
+pub record Plain : Type 2 where
+  pub by : ByValue
+  pub makes : {M : Type 1} {𝓤 : Ura M} (𝓛 : Logic 𝓤) → Makes 𝓛 by.row (Is by.row)
+
+-- a value of it is of its type
+abbrev pub IsPlain : (X : Plain) → X.by.row.Denot → Type 0
+IsPlain X x = Is X.by.row x (X.by.low x ∷ [])
+
+-- whatever machine values a value of a type is at, it is at those that are told of it
+pub at_low : (X : ByValue) (x : X.row.Denot) (vs : List Val) → Is X.row x vs → Is X.row x (X.low x ∷ [])
+at_low X x vs is = subst (λ (us : List Val). Is X.row x us) (X.tells x vs is) is
+
+-- and so is what it owns
+pub own_low : {M : Type 1} {𝓤 : Ura M} (𝓛 : Logic 𝓤) (R : RattleType) (vals : R.Denot → List Val) → Tells R (Is R) vals → (d : R.Denot) (vs : List Val)
+    → ent 𝓤 (sem 𝓛 (R.own_val d vs)) (sem 𝓛 (R.own_val d (vals d)))
+own_low {𝓤 = 𝓤} 𝓛 R vals tells d vs =
+    fact_use 𝓤 (Is R d vs) (shows 𝓛 R d vs) (λ is. subst (λ (us : List Val). ent 𝓤 (sem 𝓛 (R.own_val d vs)) (sem 𝓛 (R.own_val d us))) (tells d vs is) (id⊢ 𝓤 (sem 𝓛 (R.own_val d vs))))
 
 -- ---- what is kept beside the slice: one thing of X, or nothing
 

@@ -15,14 +15,14 @@ use lib.ListN.{length}
 use lib.Seq.{take_all}
 use base.Logic.{SProp, snd∗, via}
 use contract.Monad.{Fun}
-use denote.Ref.{Bor}
-use types.Logic.{Logic}
+use denote.Ref.{Bor, as_bor}
+use types.Logic.{Logic, sem}
 use prog.Memory.{Memory}
 use prog.Routine.{Routine}
 use Rattle.base.specs.declared.part.Span.{Span}
 use Rattle.base.specs.Answer.{Part}
 use Rattle.base.specs.Members.{is_in}
-use Rattle.base.specs.Parts.{IsPart, Ties}
+use Rattle.base.specs.Parts.{IsPart, LendsPart}
 use Rattle.base.specs.Said.{Said, gives, refuses, given, done}
 use Rattle.base.proofs.Facts.{PromisedBy, from_one}
 use Rattle.base.proofs.Checks.{then_gives}
@@ -161,20 +161,20 @@ module _ {M : Type 1} {𝓤 : Ura M} (𝓛 : Logic 𝓤) (mem : Memory → SProp
   pub command_cast : PromisedBy 𝓤 command.ended (command.clauses 𝓛 mem run) (λ κs a r later. Viewed cast_command a.0 a.1.0 r.frame r.rules)
   command_cast κs a g r v = from_one 𝓤 _ (λ is. viewed cast_command a.0 a.1.0 r.frame r.rules is.0 is.1)
 
-  pub command_cast_mut : PromisedBy 𝓤 command-mut.ended (command-mut.clauses 𝓛 mem run) (λ κs a r later. Viewed cast_command a.0 a.1.0 r.frame r.rules)
+  pub command_cast_mut : PromisedBy 𝓤 command-mut.ended (command-mut.clauses 𝓛 mem run) (λ κs a r later. Viewed cast_command a.0 (as_bor a.1.0) (as_bor r.frame) r.rules)
   command_cast_mut κs a g r v =
-      via 𝓤 _ (snd∗ 𝓤 (Ties 𝓛 κs (whole a.1.0.now (cast_command (book_of a.0) a.1.0.now)) a.1.0 r.frame) _)
-      (from_one 𝓤 _ (λ is. viewed cast_command a.0 a.1.0 r.frame r.rules is.0 is.1))
+      via 𝓤 _ (snd∗ 𝓤 (sem 𝓛 (LendsPart (whole a.1.0.now (cast_command (book_of a.0) a.1.0.now)) a.1.0 r.frame)) _)
+      (from_one 𝓤 _ (λ is. viewed cast_command a.0 (as_bor a.1.0) (as_bor r.frame) r.rules is.0 is.1))
 
   pub response_cast : PromisedBy 𝓤 response.ended (response.clauses 𝓛 mem run)
       (λ κs a r later. Viewed cast_response a.0 a.1.1.0 r.frame r.rules × (r.cc ≡ a.1.0))
   response_cast κs a g r v = from_one 𝓤 _ (λ is. (viewed cast_response a.0 a.1.1.0 r.frame r.rules is.0 is.1, is.2))
 
   -- it holds no rules: its one method asks for none
-  pub response_cast_mut : PromisedBy 𝓤 response-mut.ended (response-mut.clauses 𝓛 mem run) (λ κs a r later. Stands (cast_response (book_of a.0) a.1.0.now) a.1.0 r.frame)
+  pub response_cast_mut : PromisedBy 𝓤 response-mut.ended (response-mut.clauses 𝓛 mem run) (λ κs a r later. Stands (cast_response (book_of a.0) a.1.0.now) (as_bor a.1.0) (as_bor r.frame))
   response_cast_mut κs a g r v =
-      via 𝓤 _ (snd∗ 𝓤 (Ties 𝓛 κs (whole a.1.0.now (cast_response (book_of a.0) a.1.0.now)) a.1.0 r.frame) _)
-      (from_one 𝓤 _ (λ is. holds (cast_response (book_of a.0) a.1.0.now) a.1.0 r.frame is))
+      via 𝓤 _ (snd∗ 𝓤 (sem 𝓛 (LendsPart (whole a.1.0.now (cast_response (book_of a.0) a.1.0.now)) a.1.0 r.frame)) _)
+      (from_one 𝓤 _ (λ is. holds (cast_response (book_of a.0) a.1.0.now) (as_bor a.1.0) (as_bor r.frame) is))
 
 -- ---- which parts a view gives back: r is the part of what is held where `parts`, by the rules held, has that area of it
 
@@ -201,14 +201,14 @@ module _ {M : Type 1} {𝓤 : Ura M} (𝓛 : Logic 𝓤) (mem : Memory → SProp
   pub command_parameters : PromisedBy 𝓤 parameters.ended (parameters.clauses 𝓛 mem run) (λ κs a r later. Shows (λ c. c.parameters) a.0.rules a.0.frame r)
   command_parameters κs a g r v = from_one 𝓤 _ (λ is. shows_parameters a.0.rules a.0.frame r is)
 
-  pub command_handles_mut : PromisedBy 𝓤 handles-mut.ended (handles-mut.clauses 𝓛 mem run) (λ κs a r later. Shows (λ c. c.handles) a.0.rules a.0.frame r)
+  pub command_handles_mut : PromisedBy 𝓤 handles-mut.ended (handles-mut.clauses 𝓛 mem run) (λ κs a r later. Shows (λ c. c.handles) a.0.rules (as_bor a.0.frame) (as_bor r))
   command_handles_mut κs a g r v =
-      via 𝓤 _ (snd∗ 𝓤 (Ties 𝓛 κs (handles_range (book_of a.0.rules) a.0.frame.now) a.0.frame r) _) (from_one 𝓤 _ (λ is. shows_handles a.0.rules a.0.frame r is))
+      via 𝓤 _ (snd∗ 𝓤 (sem 𝓛 (LendsPart (handles_range (book_of a.0.rules) a.0.frame.now) a.0.frame r)) _) (from_one 𝓤 _ (λ is. shows_handles a.0.rules (as_bor a.0.frame) (as_bor r) is))
 
-  pub command_auth_area_mut : PromisedBy 𝓤 auth-area-mut.ended (auth-area-mut.clauses 𝓛 mem run) (λ κs a r later. Shows (λ c. c.auth) a.0.rules a.0.frame r)
+  pub command_auth_area_mut : PromisedBy 𝓤 auth-area-mut.ended (auth-area-mut.clauses 𝓛 mem run) (λ κs a r later. Shows (λ c. c.auth) a.0.rules (as_bor a.0.frame) (as_bor r))
   command_auth_area_mut κs a g r v =
-      via 𝓤 _ (snd∗ 𝓤 (Ties 𝓛 κs (auth_range (book_of a.0.rules) a.0.frame.now) a.0.frame r) _) (from_one 𝓤 _ (λ is. shows_auth a.0.rules a.0.frame r is))
+      via 𝓤 _ (snd∗ 𝓤 (sem 𝓛 (LendsPart (auth_range (book_of a.0.rules) a.0.frame.now) a.0.frame r)) _) (from_one 𝓤 _ (λ is. shows_auth a.0.rules (as_bor a.0.frame) (as_bor r) is))
 
-  pub command_parameters_mut : PromisedBy 𝓤 parameters-mut.ended (parameters-mut.clauses 𝓛 mem run) (λ κs a r later. Shows (λ c. c.parameters) a.0.rules a.0.frame r)
+  pub command_parameters_mut : PromisedBy 𝓤 parameters-mut.ended (parameters-mut.clauses 𝓛 mem run) (λ κs a r later. Shows (λ c. c.parameters) a.0.rules (as_bor a.0.frame) (as_bor r))
   command_parameters_mut κs a g r v =
-      via 𝓤 _ (snd∗ 𝓤 (Ties 𝓛 κs (parameters_range (book_of a.0.rules) a.0.frame.now) a.0.frame r) _) (from_one 𝓤 _ (λ is. shows_parameters a.0.rules a.0.frame r is))
+      via 𝓤 _ (snd∗ 𝓤 (sem 𝓛 (LendsPart (parameters_range (book_of a.0.rules) a.0.frame.now) a.0.frame r)) _) (from_one 𝓤 _ (λ is. shows_parameters a.0.rules (as_bor a.0.frame) (as_bor r) is))

@@ -1,12 +1,8 @@
 pub mod Giving
 pub mod GivingBy
-pub mod Holders
 pub mod HoldersMut
-pub mod Holding
 pub mod HoldingMut
 pub mod Laws
 pub mod Making
 pub mod Single
-pub mod Thin
-pub mod ThinBy
 pub mod Walking

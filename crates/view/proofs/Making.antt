@@ -12,35 +12,37 @@ use Prim.Native.Nat.{ℕ}
 use mathlib.Core.List.{List, [], ◌∷◌}
 use lib.ListN.{length}
 use seplogic.Ra.Ura.{Ura}
-use seplogic.Ra.TreeShare.{full_share}
-use mir.Syntax.{Name, Fn, Opd as Operand, named, erased, mut, w8, ty_int, ty_ref, deref, field, place, local, value_local, copy, addr_of, aggregate, assign, seq, call, return}
+use base.Fraction.{full_share}
+use mir.Syntax.{Callee as Called, Fn, Opd as Operand, named, erased, mut, w8, ty_int, ty_ref, deref, field, place, local, value_local, copy, addr_of, aggregate, assign, seq, call, return}
 use mir.Val.{Val}
 use base.Logic.{SProp, ent, sep, via, id⊢, mono_r}
 use base.Fml.{Lft, Share, fat}
-use prog.Wp.{Env, Calls, Loops, WpFn, Tables}
-use types.Logic.{Logic}
+use prog.Wp.{Env, Calls, Loops, WpFn, Closed}
+use prog.Model.{Model}
+use types.Logic.{Logic, sem}
 use contract.Lifetimes.{Lfts}
+use contract.Running.{Running, MachineTables, tables}
 use contract.Monad.{fact}
 use types.Kit.{Item, ‵, raw, ◌$◌, ◌∵◌, !, qed, by, move, use1, rewrite, frame, done}
 use types.Part.{agg, whole, sub, look_in}
 use types.Run.{Opd, Opds, look, init, forget, stop, hop, fld, from, load, addr, and_then, no_more, assigns, land, returns, enter, alloc1, alloc0, params1, pass1, pass0, free1, free0}
-use sound.WpLaws.{FmC, fm_of}
+use sound.WpLaws.{FmC}
 use denote.Laws.{Is, shows}
 use denote.Builtin.{u8}
-use denote.Ref.{Bor}
+use denote.Ref.{MutBor}
 use denote.Slice.{slice_ty, mut_slice_Lawful, Room}
 use denote.Steps.{peeks, only}
 use denote.Triple.Statement.{Contract, Triple}
 use denote.Triple.Call.{calls_at}
 use denote.Triple.Spec.{Meets}
 use denote.Triple.Clauses.{closing}
+use denote.Triple.Table.{framed}
 use Rattle.base.specs.Answer.{Part}
-use Rattle.base.specs.Parts.{IsPart, Ties}
+use Rattle.base.specs.Parts.{IsPartMut, LendsPart}
 use Rattle.base.specs.Said.{Said}
 use Rattle.base.proofs.Facts.{from_one}
-use Rattle.view.proofs.Holding.{Plain, IsPlain, valued}
-use Rattle.view.proofs.HoldingMut.{HolderMut, Kept, IsKept, kept_values, Bytes, Handed, lowered, spelt}
-use Rattle.view.proofs.Walking.{Param, Args, by_value_lem, lent_mut, ended, clauses, Promises, asked, Entry, Post, answered, ends, meets}
+use Rattle.view.proofs.HoldingMut.{HolderMut, Plain, IsPlain, valued, Kept, IsKept, kept_values, Bytes, Handed, lowered, spelt}
+use Rattle.view.proofs.Walking.{Param, Args, by_value, lent_mut, ended, clauses, Promises, asked, Entry, Post, answered, ends, meets}
 
 -- ---- what is kept of x
 
@@ -64,22 +66,24 @@ module _ (X : Plain) where
   keep_read t false x one = no_more t
 
   -- what is promised of the part r and of what stands beside it
-  abbrev Says : (keeps : Bool) → Said Part → X.by.row.Denot → Bor (List ℕ) → Bor (List ℕ) → Kept X keeps → Type 0
-  Says true p x s r k = IsPart p s r × (k ≡ x)
-  Says false p x s r k = IsPart p s r
+  abbrev Says : (keeps : Bool) → Said Part → X.by.row.Denot → MutBor (List ℕ) → MutBor (List ℕ) → Kept X keeps → Type 0
+  Says true p x s r k = IsPartMut p s r × (k ≡ x)
+  Says false p x s r k = IsPartMut p s r
 
-  keep_says : (keeps : Bool) (p : Said Part) (x : X.by.row.Denot) (s r : Bor (List ℕ)) (k : Kept X keeps) → IsPart p s r → k ≡ keep keeps x → Says keeps p x s r k
+  keep_says : (keeps : Bool) (p : Said Part) (x : X.by.row.Denot) (s r : MutBor (List ℕ)) (k : Kept X keeps) → IsPartMut p s r → k ≡ keep keeps x → Says keeps p x s r k
   keep_says true p x s r k is e = (is, e)
   keep_says false p x s r k is e = is
 
-module _ {X : Plain} {keeps : Bool} (B : HolderMut X keeps) (g : Name) (ρ : X.by.row.Denot → List ℕ → Said Part) where
+module _ {X : Plain} {keeps : Bool} (B : HolderMut X keeps) (g : Called) (ρ : X.by.row.Denot → List ℕ → Said Part) where
   abbrev passed : List Param
-  passed = by_value_lem X.by ∷ lent_mut ∷ []
+  passed = by_value X.by ∷ lent_mut ∷ []
 
   abbrev pub function : Fn
   function = record {
     lifetimes = 1;
     outlives = [];
+    ty_params = [];
+    givens = 0;
     params = 2;
     locals = local (spelt B) value_local
         ∷ local X.by.ty value_local
@@ -98,16 +102,16 @@ module _ {X : Plain} {keeps : Bool} (B : HolderMut X keeps) (g : Name) (ρ : X.b
   module _ {M : Type 1} {𝓤 : Ura M} (𝓛 : Logic 𝓤) where
     open 𝓛 use {H}
 
-    abbrev Told : (κs : Lfts 1) → Args κs passed → Bor (List ℕ) → SProp 𝓤
-    Told κs a r = Handed 𝓛 κs (ρ a.0 a.1.0.now) a.1.0 r
+    abbrev Told : (κs : Lfts 1) → Args κs passed → MutBor (List ℕ) → SProp 𝓤
+    Told κs a r = Handed 𝓛 (ρ a.0 a.1.0.now) a.1.0 r
 
     abbrev Tells : (κs : Lfts 1) → Args κs passed → (B.row κs).Denot → SProp 𝓤
-    Tells κs a d = sep 𝓤 (Ties 𝓛 κs (ρ a.0 a.1.0.now) a.1.0 (B.frame κs d)) (fact 𝓤 (Says X keeps (ρ a.0 a.1.0.now) a.0 a.1.0 (B.frame κs d) (B.beside κs d)))
+    Tells κs a d = sep 𝓤 (sem 𝓛 (LendsPart (ρ a.0 a.1.0.now) a.1.0 (B.frame κs d))) (fact 𝓤 (Says X keeps (ρ a.0 a.1.0.now) a.0 a.1.0 (B.frame κs d) (B.beside κs d)))
 
     abbrev pub Callee : Contract 𝓤
     Callee = Promises passed Bytes 𝓛 Told
 
-    module _ (κ : Lft) (q : Share) (x : X.by.row.Denot) (s : Bor (List ℕ)) where
+    module _ (κ : Lft) (q : Share) (x : X.by.row.Denot) (s : MutBor (List ℕ)) where
       abbrev a : Args (κ, tt) passed
       a = (x, (s, tt))
 
@@ -115,19 +119,19 @@ module _ {X : Plain} {keeps : Bool} (B : HolderMut X keeps) (g : Name) (ρ : X.b
       to = asked passed Bytes 𝓛 Told κ q a
 
       -- the struct of the part r
-      abbrev made : Bor (List ℕ) → (B.row (κ, tt)).Denot
+      abbrev made : MutBor (List ℕ) → (B.row (κ, tt)).Denot
       made r = B.made (κ, tt) r (keep X keeps x)
 
       goes : ent 𝓤 (Entry passed B.row 𝓛 Tells κ q a) (Callee.pre to)
       goes = qed 𝓛 (raw (Entry passed B.row 𝓛 Tells κ q a) ∷ []) ∵ frame ! $ done !
 
       -- what g says of the part, of the struct
-      hands : (r : Bor (List ℕ)) → ent 𝓤 (Told (κ, tt) a r) (Tells (κ, tt) a (made r))
+      hands : (r : MutBor (List ℕ)) → ent 𝓤 (Told (κ, tt) a r) (Tells (κ, tt) a (made r))
       hands r =
-          via 𝓤 (Handed 𝓛 (κ, tt) p s (B.frame (κ, tt) (made r)))
-          (subst (λ (t : Bor (List ℕ)). ent 𝓤 (Handed 𝓛 (κ, tt) p s r) (Handed 𝓛 (κ, tt) p s t)) (B.holds (κ, tt) r (keep X keeps x)) (id⊢ 𝓤 (Handed 𝓛 (κ, tt) p s r)))
-          (mono_r 𝓤 (Ties 𝓛 (κ, tt) p s (B.frame (κ, tt) (made r)))
-          (from_one 𝓤 (IsPart p s (B.frame (κ, tt) (made r))) (λ is. keep_says X keeps p x s (B.frame (κ, tt) (made r)) (B.beside (κ, tt) (made r)) is (B.keeping (κ, tt) r (keep X keeps x)))))
+          via 𝓤 (Handed 𝓛 p s (B.frame (κ, tt) (made r)))
+          (subst (λ (t : MutBor (List ℕ)). ent 𝓤 (Handed 𝓛 p s r) (Handed 𝓛 p s t)) (B.holds (κ, tt) r (keep X keeps x)) (id⊢ 𝓤 (Handed 𝓛 p s r)))
+          (mono_r 𝓤 (sem 𝓛 (LendsPart p s (B.frame (κ, tt) (made r))))
+          (from_one 𝓤 (IsPartMut p s (B.frame (κ, tt) (made r))) (λ is. keep_says X keeps p x s (B.frame (κ, tt) (made r)) (B.beside (κ, tt) (made r)) is (B.keeping (κ, tt) r (keep X keeps x)))))
         where
           p : Said Part
           p = ρ x s.now
@@ -154,7 +158,12 @@ module _ {X : Plain} {keeps : Bool} (B : HolderMut X keeps) (g : Name) (ρ : X.b
             move ! (13 ∷ 14 ∷ []) $ free1 ! $ move ! (11 ∷ 12 ∷ []) $ free1 ! $ move ! (9 ∷ 10 ∷ []) $ free1 ! $ move ! (7 ∷ 8 ∷ []) $ free1 ! $ move ! (5 ∷ 6 ∷ []) $ free1 ! $ move ! (3 ∷ 4 ∷ []) $ free1 ! $ free0 ! $
             move ! (2 ∷ []) $ use1 𝓛 (raw (Tells (κ, tt) a (made r))) (hands r) $ move ! (1 ∷ 2 ∷ []) $ by ! (ends passed B.row 𝓛 Tells κ q a (made r) (lowered X keeps r (keep X keeps x))))))))))))
 
-    pub makes_view : (𝓣 : Tables 𝓤 H) → Triple 𝓤 (𝓣.C g) Callee
-        → Meets 𝓛 (ended passed B.row).signature (WpFn 𝓤 H 𝓣.C 𝓣.Λ function) (closing 𝓛 (ended passed B.row) (clauses passed B.row 𝓛 Tells))
-    makes_view 𝓣 known =
-        meets passed B.row 𝓛 Tells function 𝓣 (λ κ q a are. walk κ q a.0 a.1.0 𝓣.C 𝓣.Λ (fm_of 𝓤 H 𝓛.laws 𝓣) known are.0 are.1.0.0.1)
+    module _ (𝓜 : Model 𝓤 H) (𝓡 : Running 𝓤 H 𝓜) where
+      abbrev 𝓣 : MachineTables 𝓤 H 𝓜
+      𝓣 = tables 𝓤 H 𝓜 𝓡 𝓡.env
+
+      pub makes_view : (m : Called) → Closed 𝓤 H 𝓣.C 𝓣.Λ m function → Triple 𝓤 (𝓣.C g) Callee
+          → Meets 𝓛 (ended passed B.row).signature (𝓣.C m) (closing 𝓛 (ended passed B.row) (clauses passed B.row 𝓛 Tells))
+      makes_view m closed known =
+          meets passed B.row 𝓛 Tells 𝓜 𝓡 m function closed (λ κ q a are.
+          walk κ q a.0 a.1.0 𝓣.C 𝓣.Λ (framed 𝓤 H 𝓜 𝓣) known are.0 are.1.0.0.1)

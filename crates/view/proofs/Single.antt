@@ -3,7 +3,9 @@
 -- Assumes nothing.
 use mathlib.Core.Path.{◌≡◌, refl, sym, ◌∙◌}
 use base.Logic.{id⊢, snd∗}
-use Rattle.base.specs.Parts.{Ties}
+use types.Logic.{sem}
+use denote.Ref.{as_bor}
+use Rattle.base.specs.Parts.{LendsPart}
 use Rattle.base.specs.Single.{SamePart, SingleBy}
 use Rattle.base.proofs.Answers.{said_command_code_injective, said_number32_injective, said_outcome_injective, said_response_code_injective, said_tag_injective}
 use Rattle.base.proofs.Parts.{same_part}
@@ -106,32 +108,32 @@ command_validate = record {
   once = λ κs a x y v w p q. (said_outcome_injective x y (p ∙ sym q), refl);
 }
 
-command_cast_mut : SingleBy of-command-cast-mut.ended (λ M 𝓤 𝓛. of-command-cast-mut.clauses 𝓛) (λ κs x y. SamePart x.frame y.frame × (x.rules ≡ y.rules))
+command_cast_mut : SingleBy of-command-cast-mut.ended (λ M 𝓤 𝓛. of-command-cast-mut.clauses 𝓛) (λ κs x y. SamePart (as_bor x.frame) (as_bor y.frame) × (x.rules ≡ y.rules))
 command_cast_mut = record {
   Post = _;
-  says = λ {𝓤 = 𝓤} 𝓛 mem run κs a g r s. snd∗ 𝓤 (Ties 𝓛 κs (whole a.1.0.now (cast_command (book_of a.0) a.1.0.now)) a.1.0 r.frame) _;
-  once = λ κs a x y v w p q. ((same_part x.frame y.frame p.0 q.0, p.1 ∙ sym q.1), refl);
+  says = λ {𝓤 = 𝓤} 𝓛 mem run κs a g r s. snd∗ 𝓤 (sem 𝓛 (LendsPart (whole a.1.0.now (cast_command (book_of a.0) a.1.0.now)) a.1.0 r.frame)) _;
+  once = λ κs a x y v w p q. ((same_part (as_bor x.frame) (as_bor y.frame) p.0 q.0, p.1 ∙ sym q.1), refl);
 }
 
-command_handles_mut : SingleBy of-command-handles-mut.ended (λ M 𝓤 𝓛. of-command-handles-mut.clauses 𝓛) (λ κs x y. SamePart x y)
+command_handles_mut : SingleBy of-command-handles-mut.ended (λ M 𝓤 𝓛. of-command-handles-mut.clauses 𝓛) (λ κs x y. SamePart (as_bor x) (as_bor y))
 command_handles_mut = record {
   Post = _;
-  says = λ {𝓤 = 𝓤} 𝓛 mem run κs a g r s. snd∗ 𝓤 (Ties 𝓛 κs (handles_range (book_of a.0.rules) a.0.frame.now) a.0.frame r) _;
-  once = λ κs a x y v w p q. (same_part x y p q, refl);
+  says = λ {𝓤 = 𝓤} 𝓛 mem run κs a g r s. snd∗ 𝓤 (sem 𝓛 (LendsPart (handles_range (book_of a.0.rules) a.0.frame.now) a.0.frame r)) _;
+  once = λ κs a x y v w p q. (same_part (as_bor x) (as_bor y) p q, refl);
 }
 
-command_auth_area_mut : SingleBy of-command-auth-area-mut.ended (λ M 𝓤 𝓛. of-command-auth-area-mut.clauses 𝓛) (λ κs x y. SamePart x y)
+command_auth_area_mut : SingleBy of-command-auth-area-mut.ended (λ M 𝓤 𝓛. of-command-auth-area-mut.clauses 𝓛) (λ κs x y. SamePart (as_bor x) (as_bor y))
 command_auth_area_mut = record {
   Post = _;
-  says = λ {𝓤 = 𝓤} 𝓛 mem run κs a g r s. snd∗ 𝓤 (Ties 𝓛 κs (auth_range (book_of a.0.rules) a.0.frame.now) a.0.frame r) _;
-  once = λ κs a x y v w p q. (same_part x y p q, refl);
+  says = λ {𝓤 = 𝓤} 𝓛 mem run κs a g r s. snd∗ 𝓤 (sem 𝓛 (LendsPart (auth_range (book_of a.0.rules) a.0.frame.now) a.0.frame r)) _;
+  once = λ κs a x y v w p q. (same_part (as_bor x) (as_bor y) p q, refl);
 }
 
-command_parameters_mut : SingleBy of-command-parameters-mut.ended (λ M 𝓤 𝓛. of-command-parameters-mut.clauses 𝓛) (λ κs x y. SamePart x y)
+command_parameters_mut : SingleBy of-command-parameters-mut.ended (λ M 𝓤 𝓛. of-command-parameters-mut.clauses 𝓛) (λ κs x y. SamePart (as_bor x) (as_bor y))
 command_parameters_mut = record {
   Post = _;
-  says = λ {𝓤 = 𝓤} 𝓛 mem run κs a g r s. snd∗ 𝓤 (Ties 𝓛 κs (parameters_range (book_of a.0.rules) a.0.frame.now) a.0.frame r) _;
-  once = λ κs a x y v w p q. (same_part x y p q, refl);
+  says = λ {𝓤 = 𝓤} 𝓛 mem run κs a g r s. snd∗ 𝓤 (sem 𝓛 (LendsPart (parameters_range (book_of a.0.rules) a.0.frame.now) a.0.frame r)) _;
+  once = λ κs a x y v w p q. (same_part (as_bor x) (as_bor y) p q, refl);
 }
 
 response_cast : SingleBy of-response-cast.ended (λ M 𝓤 𝓛. of-response-cast.clauses 𝓛) (λ κs x y. SamePart x.frame y.frame × (x.rules ≡ y.rules) × (x.cc ≡ y.cc))
@@ -190,16 +192,16 @@ response_validate = record {
   once = λ κs a x y v w p q. (said_outcome_injective x y (p ∙ sym q), refl);
 }
 
-response_cast_mut : SingleBy of-response-cast-mut.ended (λ M 𝓤 𝓛. of-response-cast-mut.clauses 𝓛) (λ κs x y. SamePart x.frame y.frame)
+response_cast_mut : SingleBy of-response-cast-mut.ended (λ M 𝓤 𝓛. of-response-cast-mut.clauses 𝓛) (λ κs x y. SamePart (as_bor x.frame) (as_bor y.frame))
 response_cast_mut = record {
   Post = _;
-  says = λ {𝓤 = 𝓤} 𝓛 mem run κs a g r s. snd∗ 𝓤 (Ties 𝓛 κs (whole a.1.0.now (cast_response (book_of a.0) a.1.0.now)) a.1.0 r.frame) _;
-  once = λ κs a x y v w p q. (same_part x.frame y.frame p q, refl);
+  says = λ {𝓤 = 𝓤} 𝓛 mem run κs a g r s. snd∗ 𝓤 (sem 𝓛 (LendsPart (whole a.1.0.now (cast_response (book_of a.0) a.1.0.now)) a.1.0 r.frame)) _;
+  once = λ κs a x y v w p q. (same_part (as_bor x.frame) (as_bor y.frame) p q, refl);
 }
 
-response_body_mut : SingleBy of-response-body-mut.ended (λ M 𝓤 𝓛. of-response-body-mut.clauses 𝓛) (λ κs x y. SamePart x y)
+response_body_mut : SingleBy of-response-body-mut.ended (λ M 𝓤 𝓛. of-response-body-mut.clauses 𝓛) (λ κs x y. SamePart (as_bor x) (as_bor y))
 response_body_mut = record {
   Post = _;
-  says = λ {𝓤 = 𝓤} 𝓛 mem run κs a g r s. snd∗ 𝓤 (Ties 𝓛 κs (body_range a.0.frame.now) a.0.frame r) _;
-  once = λ κs a x y v w p q. (same_part x y p q, refl);
+  says = λ {𝓤 = 𝓤} 𝓛 mem run κs a g r s. snd∗ 𝓤 (sem 𝓛 (LendsPart (body_range a.0.frame.now) a.0.frame r)) _;
+  once = λ κs a x y v w p q. (same_part (as_bor x) (as_bor y) p q, refl);
 }

@@ -1,36 +1,37 @@
 -- What stands around every walk by hand of this crate: a function over parameters of which nothing is had at its exit, whose contract asks
 -- nothing and promises Q of the arguments and the result.
 --     Param             a parameter: its type, each value's machine values, and that nothing is said of it at exit
---     by_value_lem, lent, lent_mut     what is passed by value, a `&'a [u8]`, and a `&'a mut [u8]` that is given up
+--     by_value, lent_mut     what is passed by value, and a `&'a mut [u8]` that is given up
 --     ended, clauses, Promises     the function's signature and contract
 --     asked             the call of such a function with the arguments a.        answered     what its caller has of it
 --     ends              how a walk of one ends.                                  meets        its code meets its contract, by a walk
 -- Assumes nothing.
-use mathlib.Core.Path.{refl}
 use mathlib.Core.List.{List, [], ◌∷◌}
 use seplogic.Ra.Ura.{Ura}
-use mir.Syntax.{Fn, named}
+use mir.Syntax.{Callee, Fn, named}
 use mir.Val.{Val}
 use base.Logic.{SProp, ent, sep, emp, via, fst∗, snd∗, ex_e, id⊢, comm∗}
 use base.Fml.{Fml, Lft, Share, ftrue, flft}
-use prog.Wp.{WpFn, Tables}
+use prog.Model.{Model}
+use prog.Wp.{WpFn, Closed}
 use types.Logic.{Logic, sem}
 use contract.Lifetimes.{Lfts}
+use contract.Running.{Running, MachineTables, tables}
 use types.Kit.{Item, Goal, Seq, Soaks, ‵, raw, ◌⊛◌, ⋆, some, later, ◌$◌, ◌∵◌, !, qed, move, use0, use1, split, pick, fjoin, suffices, frame, await, done}
-use sound.WpLaws.{WpFn-mono}
 use denote.RattleType.{RattleType, Denots, Valss, flat}
 use denote.Laws.{Is, Are, Ises, Spells, Tells, Tellss, valss, shows}
 use denote.Builtin.{u8}
 use denote.Exit.{Kept, Last, yes, no}
-use denote.Signature.{Slot, plain, shr_slice_of, mut_slice_of, types_at}
-use denote.Slice.{shr_slice_vals, mut_slice_vals, shr_slice_Tells, mut_slice_Tells}
+use denote.Signature.{Slot, plain, mut_slice_of, types_at}
+use denote.Slice.{mut_slice_vals, mut_slice_Tells}
 use denote.Steps.{peeks, nothing}
 use denote.Triple.Statement.{Contract}
 use denote.Triple.End.{Kepts, Fins}
 use denote.Triple.Entry.{on_entry}
 use denote.Triple.Spec.{Meets, triple_of}
 use denote.Triple.Clauses.{Clauses, Ended, ensured, lasts, closing}
-use denote.Triple.Walked.{Stays, stay_dropped, fits_of, has_of, on_exit, walk_of, Goes, AllGo, Goes-dropped, Goes-spent_slice, ends_at, walked, walk_Meets}
+use denote.Triple.Walked.{Stays, stay_dropped, fits_of, has_of, on_exit, walk_of, Goes, AllGo, Goes-dropped, Goes-spent_slice, ends_at}
+use Rattle.std.proofs.raw_atomic.Walks.{proved}
 use Rattle.base.proofs.ByValue.{ByValue}
 
 pub record Param : Type 2 where
@@ -41,24 +42,14 @@ pub record Param : Type 2 where
   pub last : (κs : Lfts 1) (d : (slot.row κs).Denot) → Last ((slot.row κs).exit kept) d
   pub goes : {M : Type 1} {𝓤 : Ura M} (𝓛 : Logic 𝓤) → Goes 𝓛 1 slot kept (stay_dropped slot kept)
 
-abbrev pub by_value_lem : ByValue → Param
-by_value_lem X = record {
+abbrev pub by_value : ByValue → Param
+by_value X = record {
   slot = plain (λ _. X.row);
   kept = yes;
   vals = λ κs d. X.low d ∷ [];
   tells = λ κs. X.tells;
   last = λ κs. X.last;
   goes = λ 𝓛. Goes-dropped 𝓛 1 (plain (λ _. X.row)) yes (λ κs. X.silent);
-}
-
-abbrev pub lent : Param
-lent = record {
-  slot = shr_slice_of (0 ∷ []) tt (plain (λ _. u8));
-  kept = yes;
-  vals = λ κs. shr_slice_vals;
-  tells = λ κs. shr_slice_Tells (named 0) κs.0 u8;
-  last = λ κs d. tt;
-  goes = λ 𝓛. Goes-dropped 𝓛 1 (shr_slice_of (0 ∷ []) tt (plain (λ _. u8))) yes (λ κs d f. refl);
 }
 
 abbrev pub lent_mut : Param
@@ -172,12 +163,13 @@ module _ (ps : List Param) (R : Lfts 1 → RattleType) where
           OnExit : SProp 𝓤
           OnExit = on_exit 𝓛 ended (dropped ps) (κ, tt) (q, tt) (machine (κ, tt) ps a) u r a (ending (κ, tt) ps a)
 
-    module _ (function : Fn) (𝓣 : Tables 𝓤 H) where
-      abbrev run : List Val → (Val → SProp 𝓤) → SProp 𝓤
-      run = WpFn 𝓤 H 𝓣.C 𝓣.Λ function
+    module _ (𝓜 : Model 𝓤 H) (𝓡 : Running 𝓤 H 𝓜) where
+      abbrev 𝓣 : MachineTables 𝓤 H 𝓜
+      𝓣 = tables 𝓤 H 𝓜 𝓡 𝓡.env
 
-      pub meets : ((κ : Lft) (q : Share) (a : Args (κ, tt) ps) → Typed (κ, tt) ps a → ent 𝓤 (Entry κ q a) (run (flat (types_at (slots ps) (κ, tt)) (machine (κ, tt) ps a)) (Post κ q a)))
-          → Meets 𝓛 ended.signature run (closing 𝓛 ended clauses)
-      meets walk =
-          walk_Meets 𝓛 ended (dropped ps) (all_go 𝓛 ps) clauses run (WpFn-mono 𝓤 H 𝓛.laws 𝓣 function)
-          (walked 𝓛 ended (dropped ps) clauses run (λ κs. spells κs ps) (λ κs. tellss κs ps) (λ κs qs bounds a g are. via 𝓤 _ (fst∗ 𝓤 _ (emp 𝓤)) (walk κs.0 qs.0 a are)))
+      pub meets : (m : Callee) (function : Fn) → Closed 𝓤 H 𝓣.C 𝓣.Λ m function
+          → ((κ : Lft) (q : Share) (a : Args (κ, tt) ps) → Typed (κ, tt) ps a → ent 𝓤 (Entry κ q a) (WpFn 𝓤 H 𝓣.C 𝓣.Λ function (flat (types_at (slots ps) (κ, tt)) (machine (κ, tt) ps a)) (Post κ q a)))
+          → Meets 𝓛 ended.signature (𝓣.C m) (closing 𝓛 ended clauses)
+      meets m function closed walk =
+          proved 𝓛 ended (dropped ps) clauses 𝓜 𝓡 (all_go 𝓛 ps) m function closed (λ κs. spells κs ps) (λ κs. tellss κs ps)
+          (λ κs qs bounds a g are. via 𝓤 _ (fst∗ 𝓤 _ (emp 𝓤)) (walk κs.0 qs.0 a are))

@@ -1,4 +1,5 @@
 // A line's call, by its name.
+use crate::text::same;
 use crate::told::{Told, filled, read, unknown, wrote};
 use crate::{frames, nonces, records, rules, show, text, views};
 use base::answer::{Outcome, Range};
@@ -6,18 +7,19 @@ use base::error::TpmError;
 use base::field::write_bytes;
 use base::part::part;
 use keeper::state::State;
+use std::io;
 
 // The line, and its answer behind it.
-pub(crate) fn line(s: &[u8], keeper: &mut State) {
-    io::write_all(1, s);
-    if !check::same(text::word(s, 0), b"#") && !ran(s, keeper) {
-        io::write_all(1, b" ?");
+pub(crate) fn line(rt: &impl Print, s: &[u8], keeper: &mut State) -> io::Result<()> {
+    rt.write_all(s)?;
+    if !same(text::word(s, 0), b"#") && !ran(rt, s, keeper)? {
+        rt.write_all(b" ?")?;
     }
-    io::write_all(1, b"\n");
+    rt.write_all(b"\n")
 }
 
 // Whether the line has the form of a call, and there is such a call: it is then made.
-fn ran(s: &[u8], keeper: &mut State) -> bool {
+fn ran(rt: &impl Print, s: &[u8], keeper: &mut State) -> io::Result<bool> {
     let mut room = [0u8; 4096];
     let bytes = text::unhex(text::word(s, 1), &mut room);
     let first = text::decimal(text::word(s, 2));
@@ -25,6 +27,7 @@ fn ran(s: &[u8], keeper: &mut State) -> bool {
     let named = rules::told(text::behind(s, 3));
     if bytes.good && first.good && second.good && named.good {
         answered(
+            rt,
             named.number,
             text::word(s, 0),
             &mut room[..bytes.number],
@@ -33,30 +36,31 @@ fn ran(s: &[u8], keeper: &mut State) -> bool {
             keeper,
         )
     } else {
-        false
+        Ok(false)
     }
 }
 
 fn answered(
+    rt: &impl Print,
     rules: u32,
     name: &[u8],
     bytes: &mut [u8],
     first: usize,
     second: usize,
     keeper: &mut State,
-) -> bool {
+) -> io::Result<bool> {
     let mut out = [0u64; 8];
-    if records::answered(rules, name, bytes, first, second)
-        || views::answered(rules::by(rules), name, bytes, first)
-        || nonces::answered(rules, name, bytes, first, keeper)
+    if records::answered(rt, rules, name, bytes, first, second)?
+        || views::answered(rt, rules::by(rules), name, bytes, first)?
+        || nonces::answered(rt, rules, name, bytes, first, keeper)?
     {
-        return true;
+        return Ok(true);
     }
     let told = call(rules, name, bytes, first, second, &mut out);
     if told.known {
-        show::answer(told, out, bytes);
+        show::answer(rt, told, out, bytes)?;
     }
-    told.known
+    Ok(told.known)
 }
 
 // The call of that name, on the bytes and the two numbers of the line.
@@ -112,19 +116,19 @@ fn copied(bytes: &mut [u8], place: usize, count: usize, out: &mut [u64; 8]) -> T
 }
 
 fn field(name: &[u8], bytes: &mut [u8], place: usize, value: usize, out: &mut [u64; 8]) -> Told {
-    if check::same(name, b"read_u16") {
+    if same(name, b"read_u16") {
         return read(1, capi::field::skein_read_u16(place, bytes, out));
     }
-    if check::same(name, b"read_u32") {
+    if same(name, b"read_u32") {
         return read(1, capi::field::skein_read_u32(place, bytes, out));
     }
     if value > 4294967295 {
         return unknown();
     }
-    if check::same(name, b"write_bytes") {
+    if same(name, b"write_bytes") {
         return copied(bytes, place, value, out);
     }
-    if check::same(name, b"write_u32") {
+    if same(name, b"write_u32") {
         return wrote(
             0,
             capi::field::skein_write_u32(place, value as u32, bytes, out),
@@ -133,7 +137,7 @@ fn field(name: &[u8], bytes: &mut [u8], place: usize, value: usize, out: &mut [u
     if value > 65535 {
         return unknown();
     }
-    if check::same(name, b"write_u16") {
+    if same(name, b"write_u16") {
         return wrote(
             0,
             capi::field::skein_write_u16(place, value as u16, bytes, out),
@@ -143,34 +147,34 @@ fn field(name: &[u8], bytes: &mut [u8], place: usize, value: usize, out: &mut [u
 }
 
 fn view(name: &[u8], bytes: &[u8], capacity: usize, out: &mut [u64; 8]) -> Told {
-    if check::same(name, b"tpm2b_validate_prefix") {
+    if same(name, b"tpm2b_validate_prefix") {
         return read(
             1,
             capi::tpm2b::skein_tpm2b_validate_prefix(capacity, bytes, out),
         );
     }
-    if check::same(name, b"tpm2b_validate") {
+    if same(name, b"tpm2b_validate") {
         return read(0, capi::tpm2b::skein_tpm2b_validate(capacity, bytes, out));
     }
-    if check::same(name, b"tpm2b_cast") {
+    if same(name, b"tpm2b_cast") {
         return read(2, capi::tpm2b::skein_tpm2b_cast(capacity, bytes, out));
     }
-    if check::same(name, b"tpm2b_cast_prefix") {
+    if same(name, b"tpm2b_cast_prefix") {
         return read(
             4,
             capi::tpm2b::skein_tpm2b_cast_prefix(capacity, bytes, out),
         );
     }
-    if check::same(name, b"tpm2b_size") {
+    if same(name, b"tpm2b_size") {
         return read(1, capi::tpm2b::skein_tpm2b_size(bytes, out));
     }
-    if check::same(name, b"tpm2b_data") {
+    if same(name, b"tpm2b_data") {
         return read(2, capi::tpm2b::skein_tpm2b_data(bytes, out));
     }
-    if check::same(name, b"tpm2b_is_empty") {
+    if same(name, b"tpm2b_is_empty") {
         return read(1, capi::tpm2b::skein_tpm2b_is_empty(bytes, out));
     }
-    if check::same(name, b"tpm2b_len") {
+    if same(name, b"tpm2b_len") {
         return read(1, capi::tpm2b::skein_tpm2b_len(bytes, out));
     }
     unknown()
@@ -178,16 +182,16 @@ fn view(name: &[u8], bytes: &[u8], capacity: usize, out: &mut [u64; 8]) -> Told 
 
 // The parts of the view that can be written through.
 fn view_part(name: &[u8], bytes: &mut [u8], capacity: usize) -> Told {
-    if check::same(name, b"cast_mut") {
+    if same(name, b"cast_mut") {
         return filled(buffer::view::cast_mut(capacity, bytes));
     }
-    if check::same(name, b"cast_prefix_mut") {
+    if same(name, b"cast_prefix_mut") {
         return filled(buffer::view::cast_prefix_mut(capacity, bytes));
     }
-    if check::same(name, b"cast_prefix_tail_mut") {
+    if same(name, b"cast_prefix_tail_mut") {
         return filled(buffer::view::cast_prefix_tail_mut(capacity, bytes));
     }
-    if check::same(name, b"data_mut") {
+    if same(name, b"data_mut") {
         return filled(buffer::view::data_mut(bytes));
     }
     unknown()
@@ -197,25 +201,25 @@ fn view_part(name: &[u8], bytes: &mut [u8], capacity: usize) -> Told {
 fn fixed(name: &[u8], bytes: &[u8], size: usize, out: &mut [u64; 8]) -> Told {
     let mut small = [0u8; 64];
     let mut large = [0u8; 1024];
-    if check::same(name, b"buffer64_from_slice") {
+    if same(name, b"buffer64_from_slice") {
         return read(
             1,
             capi::buffer64::skein_buffer64_from_slice(bytes, &mut small, out),
         );
     }
-    if check::same(name, b"buffer64_unmarshal") {
+    if same(name, b"buffer64_unmarshal") {
         return read(
             2,
             capi::buffer64::skein_buffer64_unmarshal(bytes, &mut small, out),
         );
     }
-    if check::same(name, b"buffer1024_from_slice") {
+    if same(name, b"buffer1024_from_slice") {
         return read(
             1,
             capi::buffer1024::skein_buffer1024_from_slice(bytes, &mut large, out),
         );
     }
-    if check::same(name, b"buffer1024_unmarshal") {
+    if same(name, b"buffer1024_unmarshal") {
         return read(
             2,
             capi::buffer1024::skein_buffer1024_unmarshal(bytes, &mut large, out),
@@ -224,10 +228,10 @@ fn fixed(name: &[u8], bytes: &[u8], size: usize, out: &mut [u64; 8]) -> Told {
     if size > 65535 {
         return unknown();
     }
-    if check::same(name, b"buffer64_wire_len") {
+    if same(name, b"buffer64_wire_len") {
         return read(1, capi::buffer64::skein_buffer64_wire_len(size as u16, out));
     }
-    if check::same(name, b"buffer1024_wire_len") {
+    if same(name, b"buffer1024_wire_len") {
         return read(
             1,
             capi::buffer1024::skein_buffer1024_wire_len(size as u16, out),

@@ -1,5 +1,6 @@
 // The calls on whole frames, and on the tags, the codes and the table that frames are checked by.
 use crate::rules::{by, table};
+use crate::text::same;
 use crate::told::{Told, filled, read, unknown, wrote};
 use frame::rules::Rules;
 
@@ -51,29 +52,29 @@ fn numbered(rules: u32, name: &[u8], bytes: &mut [u8], number: u32, out: &mut [u
 }
 
 fn with_tag(name: &[u8], bytes: &mut [u8], tag: u16, out: &mut [u64; 8]) -> Told {
-    if check::same(name, b"tag_known") {
+    if same(name, b"tag_known") {
         return read(1, capi::dispatch::skein_tag_known(tag, out));
     }
-    if check::same(name, b"frame_set_tag") {
+    if same(name, b"frame_set_tag") {
         return wrote(0, capi::header::skein_frame_set_tag(tag, bytes, out));
     }
     unknown()
 }
 
 fn read_with_code(rules: u32, name: &[u8], bytes: &[u8], code: u32, out: &mut [u64; 8]) -> Told {
-    if check::same(name, b"rc_read") {
+    if same(name, b"rc_read") {
         return read(4, capi::code::skein_rc_read(code, out));
     }
-    if check::same(name, b"table_find") {
+    if same(name, b"table_find") {
         return read(2, capi::dispatch::skein_table_find(table(rules), code, out));
     }
-    if check::same(name, b"table_known") {
+    if same(name, b"table_known") {
         return read(
             1,
             capi::dispatch::skein_table_known(table(rules), code, out),
         );
     }
-    if check::same(name, b"response_validate") {
+    if same(name, b"response_validate") {
         return read(
             0,
             capi::response::skein_response_validate(rules, code, bytes, out),
@@ -83,13 +84,13 @@ fn read_with_code(rules: u32, name: &[u8], bytes: &[u8], code: u32, out: &mut [u
 }
 
 fn write_code(rules: u32, name: &[u8], bytes: &mut [u8], code: u32, out: &mut [u64; 8]) -> Told {
-    if check::same(name, b"command_set_cc") {
+    if same(name, b"command_set_cc") {
         return wrote(
             0,
             capi::command::skein_command_set_cc(rules, code, bytes, out),
         );
     }
-    if check::same(name, b"response_set_rc") {
+    if same(name, b"response_set_rc") {
         return wrote(
             0,
             capi::response::skein_response_set_rc(rules, code, bytes, out),
@@ -99,44 +100,44 @@ fn write_code(rules: u32, name: &[u8], bytes: &mut [u8], code: u32, out: &mut [u
 }
 
 fn header(name: &[u8], bytes: &[u8], out: &mut [u64; 8]) -> Told {
-    if check::same(name, b"frame_tag") {
+    if same(name, b"frame_tag") {
         return read(1, capi::header::skein_frame_tag(bytes, out));
     }
-    if check::same(name, b"frame_size") {
+    if same(name, b"frame_size") {
         return read(1, capi::header::skein_frame_size(bytes, out));
     }
-    if check::same(name, b"frame_len") {
+    if same(name, b"frame_len") {
         return read(1, capi::header::skein_frame_len(bytes, out));
     }
-    if check::same(name, b"frame_is_empty") {
+    if same(name, b"frame_is_empty") {
         return read(1, capi::header::skein_frame_is_empty(bytes, out));
     }
     unknown()
 }
 
 fn command(rules: u32, name: &[u8], bytes: &[u8], out: &mut [u64; 8]) -> Told {
-    if check::same(name, b"command_cast") {
+    if same(name, b"command_cast") {
         return read(2, capi::command::skein_command_cast(rules, bytes, out));
     }
-    if check::same(name, b"command_cast_prefix") {
+    if same(name, b"command_cast_prefix") {
         return read(
             4,
             capi::command::skein_command_cast_prefix(rules, bytes, out),
         );
     }
-    if check::same(name, b"command_validate") {
+    if same(name, b"command_validate") {
         return read(0, capi::command::skein_command_validate(rules, bytes, out));
     }
-    if check::same(name, b"command_cc") {
+    if same(name, b"command_cc") {
         return read(1, capi::command::skein_command_cc(rules, bytes, out));
     }
-    if check::same(name, b"command_handles") {
+    if same(name, b"command_handles") {
         return read(2, capi::command::skein_command_handles(rules, bytes, out));
     }
-    if check::same(name, b"command_auth_area") {
+    if same(name, b"command_auth_area") {
         return read(2, capi::command::skein_command_auth_area(rules, bytes, out));
     }
-    if check::same(name, b"command_parameters") {
+    if same(name, b"command_parameters") {
         return read(
             2,
             capi::command::skein_command_parameters(rules, bytes, out),
@@ -146,19 +147,19 @@ fn command(rules: u32, name: &[u8], bytes: &[u8], out: &mut [u64; 8]) -> Told {
 }
 
 fn response(rules: u32, name: &[u8], bytes: &[u8], out: &mut [u64; 8]) -> Told {
-    if check::same(name, b"response_cast") {
+    if same(name, b"response_cast") {
         return read(2, capi::response::skein_response_cast(rules, bytes, out));
     }
-    if check::same(name, b"response_cast_prefix") {
+    if same(name, b"response_cast_prefix") {
         return read(
             4,
             capi::response::skein_response_cast_prefix(rules, bytes, out),
         );
     }
-    if check::same(name, b"response_rc") {
+    if same(name, b"response_rc") {
         return read(1, capi::response::skein_response_rc(rules, bytes, out));
     }
-    if check::same(name, b"response_body") {
+    if same(name, b"response_body") {
         return read(2, capi::response::skein_response_body(bytes, out));
     }
     unknown()
@@ -166,38 +167,38 @@ fn response(rules: u32, name: &[u8], bytes: &[u8], out: &mut [u64; 8]) -> Told {
 
 // The parts that can be written through.
 fn command_part(rules: Rules, name: &[u8], bytes: &mut [u8]) -> Told {
-    if check::same(name, b"command_cast_mut") {
+    if same(name, b"command_cast_mut") {
         return filled(frame::command::cast_mut(rules, bytes));
     }
-    if check::same(name, b"command_cast_prefix_mut") {
+    if same(name, b"command_cast_prefix_mut") {
         return filled(frame::command::cast_prefix_mut(rules, bytes));
     }
-    if check::same(name, b"command_cast_prefix_tail_mut") {
+    if same(name, b"command_cast_prefix_tail_mut") {
         return filled(frame::command::cast_prefix_tail_mut(rules, bytes));
     }
-    if check::same(name, b"command_handles_mut") {
+    if same(name, b"command_handles_mut") {
         return filled(frame::command::handles_mut(rules, bytes));
     }
-    if check::same(name, b"command_auth_area_mut") {
+    if same(name, b"command_auth_area_mut") {
         return filled(frame::command::auth_area_mut(rules, bytes));
     }
-    if check::same(name, b"command_parameters_mut") {
+    if same(name, b"command_parameters_mut") {
         return filled(frame::command::parameters_mut(rules, bytes));
     }
     unknown()
 }
 
 fn response_part(rules: Rules, name: &[u8], bytes: &mut [u8]) -> Told {
-    if check::same(name, b"response_cast_mut") {
+    if same(name, b"response_cast_mut") {
         return filled(frame::response::cast_mut(rules, bytes));
     }
-    if check::same(name, b"response_cast_prefix_mut") {
+    if same(name, b"response_cast_prefix_mut") {
         return filled(frame::response::cast_prefix_mut(rules, bytes));
     }
-    if check::same(name, b"response_cast_prefix_tail_mut") {
+    if same(name, b"response_cast_prefix_tail_mut") {
         return filled(frame::response::cast_prefix_tail_mut(rules, bytes));
     }
-    if check::same(name, b"response_body_mut") {
+    if same(name, b"response_body_mut") {
         return filled(frame::response::body_mut(bytes));
     }
     unknown()

@@ -1,8 +1,10 @@
 // Standard input line by line, whatever its length. A line is at hand whole while it is shorter than its room.
-ghost use Rattle.std.specs.Prelude.{◌≡◌, ◌<◌, length};
+ghost use Rattle.std.specs.Prelude.{◌≡◌, ◌<◌, length, IfOk};
 
 use crate::calls;
 use keeper::state::State;
+use std::io;
+use std::io::Read;
 
 // The line that is coming in: how many of its bytes stand in the room, and whether others were written before them.
 #[derive(Clone, Copy)]
@@ -12,23 +14,24 @@ struct Coming {
 }
 
 // A proved loop has to end, and nothing says that the input does: the turns count down from a number that no run uses up.
-pub(crate) fn each() {
+pub(crate) fn each(rt: &impl Print, input: &mut impl Read) -> io::Result<()> {
     let mut room = [0u8; 16384];
-    let mut chunk = io::large_buffer();
+    let mut chunk = [0u8; 65536];
     let mut keeper = [0u8; 4424];
     let mut line = fresh();
     let mut turns = u64::MAX;
     while turns > 0 {
-        let n = io::count(libc::read(0, &mut chunk), &chunk);
+        let n = input.read(&mut chunk)?;
         if n == 0 {
             break;
         }
-        line = with_bytes(&chunk[..n], &mut room, &mut keeper, line);
+        line = with_bytes(rt, &chunk[..n], &mut room, &mut keeper, line)?;
         turns -= 1;
     }
     if line.len > 0 || line.long {
-        end(&room, &mut keeper, line);
+        end(rt, &room, &mut keeper, line)?;
     }
+    Ok(())
 }
 
 fn fresh() -> Coming
@@ -40,49 +43,61 @@ fn fresh() -> Coming
     }
 }
 
-fn with_bytes(s: &[u8], room: &mut [u8], keeper: &mut State, line: Coming) -> Coming
+fn with_bytes(
+    rt: &impl Print,
+    s: &[u8],
+    room: &mut [u8],
+    keeper: &mut State,
+    line: Coming,
+) -> io::Result<Coming>
     requires { line.len < length room.old }
-    ensures { result.len < length room.new }
+    ensures { IfOk result (λ next. next.len < length room.new) }
 {
     let mut line = line;
     let mut at = 0;
     while at < s.len() {
-        line = with_byte(s[at], room, keeper, line);
+        line = with_byte(rt, s[at], room, keeper, line)?;
         at += 1;
     }
-    line
+    Ok(line)
 }
 
 // A room that is full is written and used again.
-fn with_byte(b: u8, room: &mut [u8], keeper: &mut State, line: Coming) -> Coming
+fn with_byte(
+    rt: &impl Print,
+    b: u8,
+    room: &mut [u8],
+    keeper: &mut State,
+    line: Coming,
+) -> io::Result<Coming>
     requires { line.len < length room.old }
-    ensures { result.len < length room.new }
+    ensures { IfOk result (λ next. next.len < length room.new) }
 {
     if b == b'\n' {
-        end(room, keeper, line);
-        return fresh();
+        end(rt, room, keeper, line)?;
+        return Ok(fresh());
     }
     let len = line.len;
     room[len] = b;
     if len + 1 < room.len() {
-        return Coming {
+        return Ok(Coming {
             len: len + 1,
             long: line.long,
-        };
+        });
     }
-    io::write_all(1, room);
-    Coming { len: 0, long: true }
+    rt.write_all(room)?;
+    Ok(Coming { len: 0, long: true })
 }
 
-fn end(room: &[u8], keeper: &mut State, line: Coming)
+fn end(rt: &impl Print, room: &[u8], keeper: &mut State, line: Coming) -> io::Result<()>
     requires { line.len < length room.now }
 {
     let len = line.len;
     let s = &room[..len];
     if line.long {
-        io::write_all(1, s);
-        io::write_all(1, b" ?\n");
+        rt.write_all(s)?;
+        rt.write_all(b" ?\n")
     } else {
-        calls::line(s, keeper);
+        calls::line(rt, s, keeper)
     }
 }

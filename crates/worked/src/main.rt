@@ -7,8 +7,8 @@
 // and kept from line to line; the bytes of keeper_answer are the command's, as many as the number says, and behind them
 // the response's, and keeper_ask shows the nonce. A line that starts with # and a space is written as it
 // is. A question mark stands behind a line that calls nothing: it has another form, 16,384 bytes or more, no such
-// call, or a number that does not fit it. What the program must write, crates/worked/stdout, is document 01's, 02's
-// and the Rust's word.
+// call, or a number that does not fit it. A read or a write that fails ends the program with its error. What the program
+// must write, crates/worked/stdout, is document 01's, 02's and the Rust's word.
 #![tactic(auto)]
 
 mod calls;
@@ -22,6 +22,8 @@ mod text;
 mod told;
 mod views;
 
-fn main() {
-    lines::each();
+use std::io;
+
+fn main(rt: HostRuntime) -> io::Result<()> {
+    lines::each(&rt, &mut rt.stdin())
 }

@@ -2,49 +2,51 @@
 // again. It is written into the first bytes of where it stood, which are filled before, so that all of the frame that is
 // there later was written. Each shows its own answer.
 use crate::show;
+use crate::text::same;
 use crate::told::{filled, read, wrote};
 use base::answer::Range;
 use base::code::TpmSt;
 use base::part::{Span, part, part_mut};
 use frame::header::RSP_COMMAND;
+use std::io;
 
 // Whether there is such a call, which is then made.
 pub(crate) fn answered(
+    rt: &impl Print,
     rules: u32,
     name: &[u8],
     bytes: &mut [u8],
     first: usize,
     second: usize,
-) -> bool {
-    if check::same(name, b"command_parts") {
-        command_parts(rules, bytes);
-        return true;
+) -> io::Result<bool> {
+    if same(name, b"command_parts") {
+        command_parts(rt, rules, bytes)?;
+        return Ok(true);
     }
-    if check::same(name, b"command_again") && first <= bytes.len() {
-        command_again(rules, bytes, first);
-        return true;
+    if same(name, b"command_again") && first <= bytes.len() {
+        command_again(rt, rules, bytes, first)?;
+        return Ok(true);
     }
     if first > 4294967295 {
-        return false;
+        return Ok(false);
     }
-    if check::same(name, b"response_parts") {
-        response_parts(rules, first as u32, bytes);
-        return true;
+    if same(name, b"response_parts") {
+        response_parts(rt, rules, first as u32, bytes)?;
+        return Ok(true);
     }
-    if check::same(name, b"response_again") && second <= bytes.len() {
-        response_again(rules, first as u32, bytes, second);
-        return true;
+    if same(name, b"response_again") && second <= bytes.len() {
+        response_again(rt, rules, first as u32, bytes, second)?;
+        return Ok(true);
     }
-    false
+    Ok(false)
 }
 
 // The tag, the code, where the handles end, the areas in the order of the wire, and how many entries there are.
-fn command_parts(rules: u32, s: &[u8]) {
+fn command_parts(rt: &impl Print, rules: u32, s: &[u8]) -> io::Result<()> {
     let mut out = [0u64; 8];
     let parts = capi::command::skein_command_parts(rules, s, &mut out);
     if parts.refusal != 0 {
-        show::answer(read(0, parts.refusal), out, s);
-        return;
+        return show::answer(rt, read(0, parts.refusal), out, s);
     }
     let c = parts.command;
     let told = [
@@ -57,16 +59,15 @@ fn command_parts(rules: u32, s: &[u8]) {
         c.parameters.to as u64,
         c.entries.count as u64,
     ];
-    show::answer(read(8, 0), told, s);
-    show::entries(c.entries);
+    show::answer(rt, read(8, 0), told, s)?;
+    show::entries(rt, c.entries)
 }
 
-fn response_parts(rules: u32, code: u32, s: &[u8]) {
+fn response_parts(rt: &impl Print, rules: u32, code: u32, s: &[u8]) -> io::Result<()> {
     let mut out = [0u64; 8];
     let parts = capi::response::skein_response_parts(rules, code, s, &mut out);
     if parts.refusal != 0 {
-        show::answer(read(0, parts.refusal), out, s);
-        return;
+        return show::answer(rt, read(0, parts.refusal), out, s);
     }
     let r = parts.response;
     let told = [
@@ -79,8 +80,8 @@ fn response_parts(rules: u32, code: u32, s: &[u8]) {
         r.auth.to as u64,
         r.entries.count as u64,
     ];
-    show::answer(read(8, 0), told, s);
-    show::entries(r.entries);
+    show::answer(rt, read(8, 0), told, s)?;
+    show::entries(rt, r.entries)
 }
 
 fn at(s: &[u8], place: Span) -> &[u8] {
@@ -91,7 +92,7 @@ fn at(s: &[u8], place: Span) -> &[u8] {
     part(s, range)
 }
 
-fn command_again(rules: u32, bytes: &mut [u8], room: usize) {
+fn command_again(rt: &impl Print, rules: u32, bytes: &mut [u8], room: usize) -> io::Result<()> {
     let mut copy = [0u8; 4096];
     base::field::write_bytes(&mut copy, 0, bytes);
     let len = bytes.len();
@@ -99,8 +100,7 @@ fn command_again(rules: u32, bytes: &mut [u8], room: usize) {
     let mut out = [0u64; 8];
     let parts = capi::command::skein_command_parts(rules, s, &mut out);
     if parts.refusal != 0 {
-        show::answer(wrote(0, parts.refusal), out, bytes);
-        return;
+        return show::answer(rt, wrote(0, parts.refusal), out, bytes);
     }
     filled(bytes);
     let c = parts.command;
@@ -118,7 +118,7 @@ fn command_again(rules: u32, bytes: &mut [u8], room: usize) {
         part_mut(bytes, place),
         &mut out,
     );
-    show::answer(wrote(1, number), out, bytes);
+    show::answer(rt, wrote(1, number), out, bytes)
 }
 
 // The tag of the answer to a bad tag is asked for where it was read: the number behind that of the standard reading.
@@ -131,7 +131,13 @@ fn mode(rules: u32, tag: TpmSt) -> u32 {
     rules
 }
 
-fn response_again(rules: u32, code: u32, bytes: &mut [u8], room: usize) {
+fn response_again(
+    rt: &impl Print,
+    rules: u32,
+    code: u32,
+    bytes: &mut [u8],
+    room: usize,
+) -> io::Result<()> {
     let mut copy = [0u8; 4096];
     base::field::write_bytes(&mut copy, 0, bytes);
     let len = bytes.len();
@@ -139,8 +145,7 @@ fn response_again(rules: u32, code: u32, bytes: &mut [u8], room: usize) {
     let mut out = [0u64; 8];
     let parts = capi::response::skein_response_parts(rules, code, s, &mut out);
     if parts.refusal != 0 {
-        show::answer(wrote(0, parts.refusal), out, bytes);
-        return;
+        return show::answer(rt, wrote(0, parts.refusal), out, bytes);
     }
     filled(bytes);
     let r = parts.response;
@@ -158,5 +163,5 @@ fn response_again(rules: u32, code: u32, bytes: &mut [u8], room: usize) {
         part_mut(bytes, place),
         &mut out,
     );
-    show::answer(wrote(1, number), out, bytes);
+    show::answer(rt, wrote(1, number), out, bytes)
 }

@@ -1,5 +1,6 @@
 // The rules that a line names by words behind its numbers: `standard` is the standard reading, else it is the Rust's; behind it `1.38` or
 // `1.59` is the table of that revision, else it is the crate's.
+use crate::text::same;
 use frame::rules::{Reading, Rules};
 use table::revision::Revision;
 
@@ -11,19 +12,19 @@ pub(crate) struct Named {
 }
 
 pub(crate) fn told(s: &[u8]) -> Named {
-    if check::same(s, b" standard") {
+    if same(s, b" standard") {
         return one(1);
     }
-    if check::same(s, b" 1.38") {
+    if same(s, b" 1.38") {
         return one(16);
     }
-    if check::same(s, b" standard 1.38") {
+    if same(s, b" standard 1.38") {
         return one(17);
     }
-    if check::same(s, b" 1.59") {
+    if same(s, b" 1.59") {
         return one(32);
     }
-    if check::same(s, b" standard 1.59") {
+    if same(s, b" standard 1.59") {
         return one(33);
     }
     Named {

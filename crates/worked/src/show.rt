@@ -2,91 +2,91 @@
 use crate::told::Told;
 use base::answer::Outcome;
 use frame::session::{Entries, Session};
+use std::io;
 
-fn bytes(s: &[u8]) {
+fn bytes(rt: &impl Print, s: &[u8]) -> io::Result<()> {
     if s.len() == 0 {
-        io::write_all(1, b"-");
+        rt.write_all(b"-")?;
     }
     let mut at = 0;
     while at < s.len() {
-        io::print_hex(1, s[at] as u64, 2);
+        print!(rt; "{:02x}", s[at])?;
         at += 1;
     }
+    Ok(())
 }
 
 // The first `most` of the numbers.
-fn numbers(s: &[u64], most: usize) {
+fn numbers(rt: &impl Print, s: &[u64], most: usize) -> io::Result<()> {
     let mut at = 0;
     while at < s.len() {
         if at < most {
-            io::write_all(1, b" ");
-            io::print_decimal(1, s[at]);
+            rt.write_all(b" ")?;
+            rt.print(s[at])?;
         }
         at += 1;
     }
+    Ok(())
 }
 
 // The area of a refusal, by the number that stands for it.
-fn area(number: u64) {
+fn area(rt: &impl Print, number: u64) -> io::Result<()> {
     if number == 1 {
-        io::write_all(1, b" header");
-        return;
+        return rt.write_all(b" header");
     }
     if number == 2 {
-        io::write_all(1, b" handles");
-        return;
+        return rt.write_all(b" handles");
     }
     if number == 3 {
-        io::write_all(1, b" authorization");
-        return;
+        return rt.write_all(b" authorization");
     }
     if number == 4 {
-        io::write_all(1, b" parameters");
-        return;
+        return rt.write_all(b" parameters");
     }
-    io::write_all(1, b" none");
+    rt.write_all(b" none")
 }
 
 // What a call returned and reported, and the bytes that it left. A refusal has its own fields, at their own places, and
 // then its area.
-pub(crate) fn answer(told: Told, out: [u64; 8], later: &[u8]) {
-    io::write_all(1, b" = ");
-    io::print_decimal(1, told.number as u64);
+pub(crate) fn answer(rt: &impl Print, told: Told, out: [u64; 8], later: &[u8]) -> io::Result<()> {
+    rt.write_all(b" = ")?;
+    rt.print(told.number)?;
     if told.number == 0 {
-        numbers(&out, told.count);
+        numbers(rt, &out, told.count)?;
     } else {
-        numbers(&out[4..], fields(told.number));
-        area(out[7]);
+        numbers(rt, &out[4..], fields(told.number))?;
+        area(rt, out[7])?;
     }
     if told.writes {
-        io::write_all(1, b" ; ");
-        bytes(later);
+        rt.write_all(b" ; ")?;
+        bytes(rt, later)?;
     }
+    Ok(())
 }
 
 // What a view holds: how many bytes, and whether they pass the full check; then its parts.
-pub(crate) fn held(len: usize, full: Outcome) {
-    io::write_all(1, b" = ");
-    io::print_decimal(1, len as u64);
+pub(crate) fn held(rt: &impl Print, len: usize, full: Outcome) -> io::Result<()> {
+    rt.write_all(b" = ")?;
+    rt.print(len)?;
     match full {
-        Outcome::Done => io::write_all(1, b" passes"),
-        Outcome::Refused(_) => io::write_all(1, b" refused"),
-    };
+        Outcome::Done => rt.write_all(b" passes"),
+        Outcome::Refused(_) => rt.write_all(b" refused"),
+    }
 }
 
-pub(crate) fn part(s: &[u8]) {
-    io::write_all(1, b" ");
-    bytes(s);
+pub(crate) fn part(rt: &impl Print, s: &[u8]) -> io::Result<()> {
+    rt.write_all(b" ")?;
+    bytes(rt, s)
 }
 
 // The first three entries, each in the order of the wire.
-pub(crate) fn entries(es: Entries) {
-    entry(es.first);
-    entry(es.second);
-    entry(es.third);
+pub(crate) fn entries(rt: &impl Print, es: Entries) -> io::Result<()> {
+    entry(rt, es.first)?;
+    entry(rt, es.second)?;
+    entry(rt, es.third)
 }
 
-fn entry(e: Session) {
+fn entry(rt: &impl Print, e: Session) -> io::Result<()> {
     let told = [
         e.handle as u64,
         e.nonce.at as u64,
@@ -95,7 +95,7 @@ fn entry(e: Session) {
         e.hmac.at as u64,
         e.hmac.size as u64,
     ];
-    numbers(&told, 6);
+    numbers(rt, &told, 6)
 }
 
 // How many fields a refusal has: document 01's have two or three, the keeper's own (document 02, W8) none.

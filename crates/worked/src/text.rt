@@ -1,12 +1,18 @@
 // The words of a line: where they stand, and the numbers and bytes that they spell.
-ghost use Rattle.std.specs.Prelude.{◌≡◌, ◌≤◌, length};
-ghost use Rattle.io.specs.Counts.{IsPrefixLen};
+ghost use Rattle.std.specs.Prelude.{◌≡◌, ◌≤◌, ◌↔◌, IsTrue, length};
 
 // Whether a word spells what is asked for, and the number, or how many bytes.
 #[derive(Clone, Copy)]
 pub(crate) struct Spelt {
     pub good: bool,
     pub number: usize,
+}
+
+// Whether the two hold the same bytes.
+pub(crate) fn same(a: &[u8], b: &[u8]) -> bool
+    ensures { IsTrue result ↔ (a.now ≡ b.now) }
+{
+    a == b
 }
 
 // Where the next space stands, from a place on, or the end.
@@ -61,7 +67,7 @@ fn nothing(good: bool) -> Spelt
 
 // The number that decimal digits spell, where it fits 64 bits.
 pub(crate) fn decimal(s: &[u8]) -> Spelt {
-    if check::same(s, b"-") {
+    if same(s, b"-") {
         return nothing(true);
     }
     let mut n: usize = 0;
@@ -85,9 +91,9 @@ pub(crate) fn decimal(s: &[u8]) -> Spelt {
 
 // The bytes that hex digits spell, put at the start of out, where they have room there.
 pub(crate) fn unhex(s: &[u8], out: &mut [u8]) -> Spelt
-    ensures { IsPrefixLen result.number out.new }
+    ensures { result.number ≤ length out.new }
 {
-    if check::same(s, b"-") {
+    if same(s, b"-") {
         return nothing(true);
     }
     let count = s.len() / 2;

@@ -1,2 +1,0 @@
-mod Asking
-mod AskingBy
