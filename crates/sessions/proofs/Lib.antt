@@ -1,5 +1,2 @@
-pub mod Gathering
 pub mod Laws
-pub mod Numbers
 pub mod Single
-pub mod Writing
