@@ -1,4 +1,3 @@
-pub mod Arrays
 pub mod Fields
 pub mod Keepers
 pub mod Laid

@@ -1,12 +1,11 @@
 -- `keeper::state::shift` meets its contract: the nonce comes through an array of its own.
 -- Assumes nothing.
 use mathlib.Core.Path.{refl, sym, ◌∙◌, ap}
-use Prim.Native.Nat.{◌≤◌, ◌<◌}
+use Prim.Native.Nat.{◌≤◌}
 use native.Mathlib.Omega.{arith}
 use lib.ListN.{length, replicate}
 use Rattle.keeper.specs.State.{put, size_at}
 use Rattle.keeper.proofs.Places.{size_most, length_nonce, nonce_through}
-use Rattle.std.proofs.Common.{rules}
 use Rattle.keeper.proofs.state.shift.Goals as goal
 
 pub overflow_add-end : goal.overflow_add-end
@@ -40,5 +39,4 @@ pub returns-clause-bytes : goal.returns-clause-bytes
 returns-clause-bytes c =
     let a = c.args in
     let nonce = nonce_through a.s.now (omega arith) a.from (omega arith) c.size_at-size.ensures (replicate 64 0) refl c.write_bytes.ensures.bytes in
-    let fits : c.handle_at-handle.result < 4294967296 = search rules in
     c.put.ensures ∙ (λ k. put a.to (c.handle_at-handle.ensures k) (nonce k) a.s.now)
