@@ -10,7 +10,7 @@ command -v "$cargo" >/dev/null || cargo=''
 prepare() {
     need_rustc
     make_library "$made/proved"
-    export SKEINLOFT_LIB_DIR="$made/proved/target/staticlib"
+    export SKEINLOFT_LIB_DIR="$made/proved"
     export CARGO_TARGET_DIR="$root/target/cargo"
 }
 
@@ -56,7 +56,7 @@ make_skein() {
         return
     fi
     skein=$work/skein
-    if [ ! -f "$skein" ] || [ -n "$(find "$crate" "$root/skein" "$SKEINLOFT_LIB_DIR" -newer "$skein")" ]; then
+    if [ ! -f "$skein" ] || [ -n "$(find "$crate" "$root/skein" "$SKEINLOFT_LIB_DIR/libcapi.a" -newer "$skein")" ]; then
         { build_crate && rust_program "$root/skein/src/main.rs" "$skein"; } || fail "skein is not compiled"
     fi
 }

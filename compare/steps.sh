@@ -50,69 +50,49 @@ need_rustc() {
 
 # ---- the proved library
 
-# Copies what is to be proved to DIR, with what is proved of it already in FROM, the repository if none is named: an unchanged
-# crate needs no new proof there.
-copy_crates() { # DIR [FROM]
-    rm -rf "$1"
-    mkdir -p "$1/target"
-    cp -R "$root/crates" "$root/crates.txt" "$1"
-    for part in rlib stamp; do
-        if [ -d "${2:-$root}/target/$part" ]; then cp -R "${2:-$root}/target/$part" "$1/target"; fi
+# Copies what is proved to DIR. That has to lie outside the repository, in which the toolchain's gate takes such files in crates/ alone.
+copy_crates() { # DIR
+    mkdir -p "$1"
+    cp "$root/crates.txt" "$1"
+    for part in "$root"/crates/*/src "$root"/crates/*/specs "$root"/crates/*/proofs; do
+        if [ -d "$part" ]; then
+            to=$1/${part#"$root/"}
+            mkdir -p "$(dirname -- "$to")"
+            cp -R "$part" "$to"
+        fi
     done
 }
 
-# Makes a shadow of the kit in which all is a link to the kit's own, except clang, for which native-clang stands in and
-# finds the kit's tools in the folder kit beside it.
-shadow_kit() { # SHADOW
-    guide=$(rt doc) || return
-    from=$(dirname "$(dirname "$guide")") to=$1
-    rm -rf "$to"
-    for part in on "$(uname -m)" toolchain bin clang; do
-        mkdir -p "$to"
-        for file in "$from"/*; do
-            [ "$file" = "$from/$part" ] || ln -s "$file" "$to"
-        done
-        from=$from/$part to=$to/$part
-    done
-    ln -s "$compare/native-clang" "$to"
-    ln -s "$(dirname "$from")" "$(dirname "$to")/kit"
+# Proves crate capi_c of the repository in REPOSITORY, and writes DIR/libcapi.a for a machine, this one if none is named;
+# DIR/build.log has what was said. What the crates below are checked for already on this machine the toolchain knows by itself. It
+# runs on x86-64, and writes libraries for Arm too; that for x86-64 asks for no more than what every such processor has.
+build_library() { # REPOSITORY DIR [MACHINE]
+    mkdir -p "$2"
+    case ${3:-$(uname -m)} in
+    x86_64) kind=--cpu=x86-64 ;;
+    aarch64) kind=--target=aarch64-unknown-linux-gnu ;;
+    *)
+        echo "a library can be made for x86_64 and aarch64, not for ${3:-$(uname -m)}" >"$2/build.log"
+        return 1
+        ;;
+    esac
+    (cd "$1/crates/capi_c" && rt lib "$kind") >"$2/build.log" 2>&1 && cp "$1/crates/capi_c/out/libcapi_c.a" "$2/libcapi.a"
 }
 
-# Puts the calls of arm.ll in the place of the library's own in DIR, which get another name.
-add_arm_calls() { # DIR
-    library=$1/target/staticlib/libcapi.a
-    sed -n 's/^declare .*@\(skein_[a-z_]*\)\(\.lowered\)(.*/\1 \1\2/p' "$compare/arm.ll" >"$1/lowered" &&
-        [ -s "$1/lowered" ] && objcopy --redefine-syms="$1/lowered" "$library" &&
-        "$1/kit/on/aarch64/toolchain/bin/kit/clang" --target=aarch64-unknown-linux-gnu -Wno-override-module \
-            -O3 -fPIE -c -x ir -o "$1/arm.o" "$compare/arm.ll" &&
-        ar r "$library" "$1/arm.o"
+# What a library is made by and made of.
+sources() {
+    rt version
+    (cd "$root" && find crates.txt crates/*/src crates/*/specs crates/*/proofs -type f -exec cksum {} + 2>/dev/null | LC_ALL=C sort)
 }
 
-# Proves crate capi of the repository in DIR and writes DIR/target/staticlib/libcapi.a for a machine, this one if none is
-# named; DIR/build.log has what was said. The kit writes libraries for x86-64 alone, and they cannot be linked on Arm. For
-# Arm the module that the kit proved is compiled there instead: it is the same proved module, with the calls of arm.ll
-# before those that pass structs. The library stays in DIR, apart from the repository's own for x86-64.
-build_library() { # DIR [MACHINE]
-    case ${2:-$(uname -m)} in
-    x86_64) (cd "$1" && rt staticlib capi) ;;
-    aarch64) shadow_kit "$1/kit" && (cd "$1" && RATTLE_HOME=$1/kit rt staticlib capi) && add_arm_calls "$1" ;;
-    *) echo "a library can be made for x86_64 and aarch64, not for ${2:-$(uname -m)}" && false ;;
-    esac >"$1/build.log" 2>&1
-}
-
-# Tells whether the library in DIR was made by this kit, of the crates as they are.
-is_made() { # DIR
-    [ -f "$1/made-by" ] && rt version | cmp -s - "$1/made-by" && cmp -s "$root/crates.txt" "$1/crates.txt" &&
-        diff -r "$root/crates" "$1/crates" >/dev/null
-}
-
-# Copies, proves and compiles the library, for this machine if none is named. What is there already stays; `rt ci` removes it.
-make_library() { # DIR [MACHINE [FROM]]
-    if is_made "$1"; then return; fi
+# Proves and compiles the library, for this machine if none is named. What is there already, of the crates as they are, stays.
+make_library() { # DIR [MACHINE]
+    sources >"$work/sources"
+    if [ -f "$1/libcapi.a" ] && cmp -s "$work/sources" "$1/made-of"; then return; fi
     echo "$me: proving and compiling the library for ${2:-$(uname -m)}, which can take minutes" >&2
-    copy_crates "$1" "${3:-}"
-    if build_library "$1" "${2:-}"; then
-        rt version >"$1/made-by"
+    rm -rf "$1"
+    if build_library "$root" "$1" "${2:-}"; then
+        mv "$work/sources" "$1/made-of"
         return
     fi
     cat "$1/build.log"
@@ -147,10 +127,10 @@ build_tss() {
     cc -O3 -Wall -Wextra -Werror -c -o "$tss" "$root/bench/src/tss.c" || fail "bench/src/tss.c is not compiled"
 }
 
-# Links a Rust program with the library of the repository in DIR, with the crate where there is one, and with tpm2-tss where
-# that was asked for and is at hand.
+# Links a Rust program with the library in DIR, with the crate where there is one, and with tpm2-tss where that was asked for and is at
+# hand.
 build_program() { # DIR SOURCE OUT
-    set -- "$2" -o "$3" -L "native=$1/target/staticlib" -l static=capi
+    set -- "$2" -o "$3" -L "native=$1" -l static=capi
     [ -z "$oracle" ] || set -- "$@" --cfg oracle --extern "tpm2_protocol=$oracle"
     [ -z "$tss" ] || set -- "$@" --cfg tss -C "link-arg=$tss" -C link-arg=-ltss2-mu
     "$RUSTC" --edition 2024 -C opt-level=3 --check-cfg 'cfg(oracle)' --check-cfg 'cfg(tss)' "$@"

@@ -1,17 +1,17 @@
 //! Links the proved library. SKEINLOFT_LIB_DIR names its folder. Else it is where `./install` put it, beside this crate, or in
-//! the repository where `rt staticlib capi` writes it.
+//! the repository where `rt lib` writes it.
 
 use std::env;
 use std::path::{Path, PathBuf};
 
-/// Where the library may be. It is called libcapi.a where it is made, and libskeinloft.a where it is installed.
+/// Where the library may be. It is called libcapi_c.a or libcapi.a where it is made, and libskeinloft.a where it is installed.
 fn places() -> Vec<PathBuf> {
     if let Some(named) = env::var_os("SKEINLOFT_LIB_DIR").map(PathBuf::from) {
-        return ["libskeinloft.a", "libcapi.a"].map(|file| named.join(file)).to_vec();
+        return ["libskeinloft.a", "libcapi.a", "libcapi_c.a"].map(|file| named.join(file)).to_vec();
     }
     let here = PathBuf::from(env::var_os("CARGO_MANIFEST_DIR").expect("cargo names the folder of the crate"));
     if here.join("../../crates.txt").is_file() {
-        return vec![here.join("../../target/staticlib/libcapi.a")];
+        return vec![here.join("../../crates/capi_c/out/libcapi_c.a")];
     }
     let machine = env::var("CARGO_CFG_TARGET_ARCH").expect("cargo names the machine");
     let library = |folder: &str| here.join("../../../lib").join(folder).join("libskeinloft.a");

@@ -7,7 +7,7 @@
 //!
 //! The crate has no dependency, allocates nothing and needs no `std`; `unsafe` is in one file, which declares the calls.
 //! The names are those of tpm2-protocol where it has them. An installed crate is linked with the library that was installed
-//! beside it, the crate in the repository with the one that `rt staticlib capi` writes to `target/staticlib`;
+//! beside it, the crate in the repository with the one that `rt lib` in `crates/capi_c` writes there to `out`;
 //! `SKEINLOFT_LIB_DIR` names another folder.
 //!
 //! # Reading

@@ -14,7 +14,7 @@ pub mod dispatch;
 pub mod field;
 pub mod header;
 pub mod nonce;
-mod out;
+pub mod out;
 pub mod response;
 mod rules;
 pub mod tpm2b;

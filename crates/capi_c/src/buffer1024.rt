@@ -1,0 +1,106 @@
+// Exports of capi::buffer1024.
+ghost use Rattle.std.specs.Prelude.{◌≡◌, [], ◌∷◌, ◌+◌};
+ghost use Rattle.base.specs.Said.{after, gives};
+ghost use Rattle.buffer.specs.Fixed.{buffer as record_of, copied, count, equal, extended, marshalled, new, room_after, size_said, unmarshalled, wire_length};
+ghost use Rattle.buffer.specs.View.{prefix};
+ghost use Rattle.capi.specs.Buffer.{size_and_wire, size_alone};
+ghost use Rattle.capi.specs.Out.{Reports, one, truth};
+
+use buffer::fixed1024::Room;
+use capi::out::Numbers;
+
+#[unsafe(no_mangle)]
+pub extern "C" fn skein_buffer1024_new(data: &mut Room, out: &mut Numbers) -> u32
+    ensures reports { Reports size_alone (gives (new 1024)) out.old out.new result }
+    ensures data_after { «data».new ≡ (new 1024).room }
+{
+    capi::buffer1024::skein_buffer1024_new(data, out)
+}
+
+#[unsafe(no_mangle)]
+pub extern "C" fn skein_buffer1024_wire_len(size: u16, out: &mut Numbers) -> u32
+    ensures { Reports one (wire_length 1024 size) out.old out.new result }
+{
+    capi::buffer1024::skein_buffer1024_wire_len(size, out)
+}
+
+#[unsafe(no_mangle)]
+pub extern "C" fn skein_buffer1024_held(
+    size: u16,
+    data: &Room,
+    room: &mut [u8],
+    out: &mut Numbers,
+) -> u32
+    ensures reports { Reports one (count size (copied 1024 (record_of size «data».now) room.old)) out.old out.new result }
+    ensures room_after { room.new ≡ after room.old (copied 1024 (record_of size «data».now) room.old) }
+{
+    capi::buffer1024::skein_buffer1024_held(size, data, room, out)
+}
+
+#[unsafe(no_mangle)]
+pub extern "C" fn skein_buffer1024_marshal(
+    size: u16,
+    data: &Room,
+    room: &mut [u8],
+    out: &mut Numbers,
+) -> u32
+    ensures reports { Reports one (count (2 + size) (marshalled 1024 (record_of size «data».now) room.old)) out.old out.new result }
+    ensures room_after { room.new ≡ after room.old (marshalled 1024 (record_of size «data».now) room.old) }
+{
+    capi::buffer1024::skein_buffer1024_marshal(size, data, room, out)
+}
+
+#[unsafe(no_mangle)]
+pub extern "C" fn skein_buffer1024_eq(
+    size: u16,
+    data: &Room,
+    other_size: u16,
+    other: &Room,
+    out: &mut Numbers,
+) -> u32
+    ensures { Reports truth (equal 1024 (record_of size «data».now) (record_of other_size other.now)) out.old out.new result }
+{
+    capi::buffer1024::skein_buffer1024_eq(size, data, other_size, other, out)
+}
+
+#[unsafe(no_mangle)]
+pub extern "C" fn skein_buffer1024_push(
+    byte: u8,
+    size: u16,
+    data: &mut Room,
+    out: &mut Numbers,
+) -> u32
+    ensures reports { Reports size_alone (extended 1024 (byte ∷ []) (record_of size «data».old)) out.old out.new result }
+    ensures data_after { «data».new ≡ room_after «data».old (extended 1024 (byte ∷ []) (record_of size «data».old)) }
+{
+    capi::buffer1024::skein_buffer1024_push(byte, size, data, out)
+}
+
+#[unsafe(no_mangle)]
+pub extern "C" fn skein_buffer1024_extend(
+    s: &[u8],
+    size: u16,
+    data: &mut Room,
+    out: &mut Numbers,
+) -> u32
+    ensures reports { Reports one (size_said (extended 1024 s.now (record_of size «data».old))) out.old out.new result }
+    ensures data_after { «data».new ≡ room_after «data».old (extended 1024 s.now (record_of size «data».old)) }
+{
+    capi::buffer1024::skein_buffer1024_extend(s, size, data, out)
+}
+
+#[unsafe(no_mangle)]
+pub extern "C" fn skein_buffer1024_from_slice(s: &[u8], data: &mut Room, out: &mut Numbers) -> u32
+    ensures reports { Reports size_alone (extended 1024 s.now (new 1024)) out.old out.new result }
+    ensures data_after { «data».new ≡ room_after «data».old (extended 1024 s.now (new 1024)) }
+{
+    capi::buffer1024::skein_buffer1024_from_slice(s, data, out)
+}
+
+#[unsafe(no_mangle)]
+pub extern "C" fn skein_buffer1024_unmarshal(s: &[u8], data: &mut Room, out: &mut Numbers) -> u32
+    ensures reports { Reports size_and_wire (prefix 1024 s.now) out.old out.new result }
+    ensures data_after { «data».new ≡ room_after «data».old (unmarshalled 1024 s.now) }
+{
+    capi::buffer1024::skein_buffer1024_unmarshal(s, data, out)
+}

@@ -1,0 +1,37 @@
+// Exports of capi::field.
+ghost use Rattle.std.specs.Prelude.{◌≡◌};
+ghost use Rattle.base.specs.Field.{read_field, write_field};
+ghost use Rattle.base.specs.Said.{after, done};
+ghost use Rattle.capi.specs.Out.{Reports, one, none};
+
+use capi::out::Numbers;
+
+#[unsafe(no_mangle)]
+pub extern "C" fn skein_read_u16(place: usize, s: &[u8], out: &mut Numbers) -> u32
+    ensures { Reports one (read_field 2 place s.now) out.old out.new result }
+{
+    capi::field::skein_read_u16(place, s, out)
+}
+
+#[unsafe(no_mangle)]
+pub extern "C" fn skein_read_u32(place: usize, s: &[u8], out: &mut Numbers) -> u32
+    ensures { Reports one (read_field 4 place s.now) out.old out.new result }
+{
+    capi::field::skein_read_u32(place, s, out)
+}
+
+#[unsafe(no_mangle)]
+pub extern "C" fn skein_write_u16(place: usize, n: u16, s: &mut [u8], out: &mut Numbers) -> u32
+    ensures reports { Reports none (done (write_field 2 place n s.old)) out.old out.new result }
+    ensures s_after { s.new ≡ after s.old (write_field 2 place n s.old) }
+{
+    capi::field::skein_write_u16(place, n, s, out)
+}
+
+#[unsafe(no_mangle)]
+pub extern "C" fn skein_write_u32(place: usize, n: u32, s: &mut [u8], out: &mut Numbers) -> u32
+    ensures reports { Reports none (done (write_field 4 place n s.old)) out.old out.new result }
+    ensures s_after { s.new ≡ after s.old (write_field 4 place n s.old) }
+{
+    capi::field::skein_write_u32(place, n, s, out)
+}
