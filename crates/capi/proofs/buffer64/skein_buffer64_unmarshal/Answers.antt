@@ -3,7 +3,6 @@
 use Rattle.base.specs.Answer.{said_count}
 use Rattle.base.proofs.Answers.{learnt}
 use Rattle.capi.proofs.Laid.{unread, read_in}
-use Rattle.std.proofs.Common.{rules}
 use Rattle.capi.proofs.buffer64.skein_buffer64_unmarshal.Goals as goal
 
 pub returns-in-Refused-clause-data_after : goal.returns-in-Refused-clause-data_after

@@ -4,7 +4,6 @@ use mathlib.Core.Path.{refl}
 use borrow.Author.Tests.{ne_eqb}
 use Rattle.capi.specs.Code.{kind_numbered, value}
 use Rattle.capi.proofs.Reported.{refused}
-use Rattle.std.proofs.Common.{rules}
 use Rattle.capi.proofs.code.skein_rc_value.Goals as goal
 
 pub returns-in-0 : goal.returns-in-0

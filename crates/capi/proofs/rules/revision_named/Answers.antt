@@ -6,7 +6,6 @@ use borrow.Author.Tests.{eq-eqb, ne_eqb}
 use lib.Dec.{eqb}
 use Rattle.base.proofs.Checks.{passes, fails}
 use Rattle.capi.specs.Rules.{no_rules, table_named, revision_numbered}
-use Rattle.std.proofs.Common.{rules}
 use Rattle.capi.proofs.rules.revision_named.Goals as goal
 
 pub returns-then-number-eq0 : goal.returns-then-number-eq0

@@ -5,7 +5,6 @@ use borrow.Author.Tests.{ne_eqb}
 use Rattle.base.proofs.Answers.{learnt}
 use Rattle.capi.specs.Rules.{said_revision}
 use Rattle.capi.proofs.Naming.{rules_from, rules_none}
-use Rattle.std.proofs.Common.{rules}
 use Rattle.capi.proofs.rules.rules_named.Goals as goal
 
 pub returns-in-Unknown : goal.returns-in-Unknown
