@@ -1,5 +1,5 @@
 // Standard input line by line, whatever its length. A line is at hand whole while it is shorter than its room.
-ghost use Rattle.std.specs.Prelude.{◌≡◌, ◌<◌, length, IfOk};
+ghost use Rattle.std.specs.Prelude.{◌≡◌, ◌<◌, length, MatchResult};
 
 use crate::calls;
 use keeper::state::State;
@@ -51,7 +51,7 @@ fn with_bytes(
     line: Coming,
 ) -> io::Result<Coming>
     requires { line.len < length room.old }
-    ensures { IfOk result (λ next. next.len < length room.new) }
+    ensures { MatchResult result (λ next. next.len < length room.new) (λ e. length room.new ≡ length room.old) }
 {
     let mut line = line;
     let mut at = 0;
@@ -71,7 +71,7 @@ fn with_byte(
     line: Coming,
 ) -> io::Result<Coming>
     requires { line.len < length room.old }
-    ensures { IfOk result (λ next. next.len < length room.new) }
+    ensures { MatchResult result (λ next. next.len < length room.new) (λ e. length room.new ≡ length room.old) }
 {
     if b == b'\n' {
         end(rt, room, keeper, line)?;
