@@ -4,4 +4,5 @@ pub mod Laws
 pub mod Never
 pub mod Ranges
 pub mod Single
+pub mod Table
 pub mod Worked

@@ -8,16 +8,21 @@ use native.Mathlib.Omega.{arith}
 use borrow.Author.Tests.{lt-leb, le-ltb, eqb-true, ne_eqb}
 use lib.Dec.{eqb, leb, ltb}
 use Rattle.base.specs.Members.{is_in}
-use Rattle.base.proofs.Tables.{below, every, at_member, on_stretch}
+use Rattle.base.proofs.Tables.{below, at_below, every, at_member, agree}
 use Rattle.table.specs.Tags.{tags}
 
 abbrev bit_at : ℕ → ℕ → Bool
 bit_at bits k = eqb (bits / 2 ^ k % 2) 1
 
+abbrev are_tags : ℕ → ℕ → Bool
+are_tags bits k = beq (bit_at bits k) (is_in (0x8000 + k) tags)
+
 -- bits that agree with the tags at every place tell of each tag there whether TpmSt has it
-pub bit_known : (bits : ℕ) → below (λ (k : ℕ). beq (bit_at bits (0x8000 + k - 0x8000)) (is_in (0x8000 + k) tags)) 64 ≡ true
-    → (tag : ℕ) → 0x8000 ≤ tag → tag < 0x8040 → bit_at bits (tag - 0x8000) ≡ is_in tag tags
-bit_known bits = on_stretch (λ (tag : ℕ). bit_at bits (tag - 0x8000)) (λ (tag : ℕ). is_in tag tags) 0x8000 0x8040
+pub bit_known : (bits tag : ℕ) → 0x8000 ≤ tag → tag < 0x8040 → below (are_tags bits) 64 ≡ true → bit_at bits (tag - 0x8000) ≡ is_in tag tags
+bit_known bits tag h l e =
+    let place : 0x8000 + (tag - 0x8000) ≡ tag = omega arith in
+    rw place at (agree (bit_at bits (tag - 0x8000)) (is_in (0x8000 + (tag - 0x8000)) tags)
+    (at_below (are_tags bits) 64 e (tag - 0x8000) (omega arith)))
 
 -- two tests that follow from each other are one
 same : (a b : Bool) → (a ≡ true → b ≡ true) → (b ≡ true → a ≡ true) → a ≡ b

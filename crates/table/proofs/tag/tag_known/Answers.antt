@@ -13,4 +13,4 @@ returns-then-tag-ge32832 c = high_known _ c.if-tag-ge32832.true
 
 pub returns : goal.returns
 unfolding tags
-returns c = bit_known _ refl _ c.if-tag-lt32768.false c.if-tag-ge32832.false
+returns c = bit_known _ _ c.if-tag-lt32768.false c.if-tag-ge32832.false refl
