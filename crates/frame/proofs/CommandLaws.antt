@@ -1,4 +1,4 @@
--- A command passes exactly where it is the layout of well_formed parts, over any rules whose known codes hold the rows'; the parts read are those laid out.
+-- A command passes exactly where it is the layout of well-formed parts, over any rules whose known codes hold the rows'; the parts read are those laid out.
 -- Assumes nothing.
 use mathlib.Core.Path.{◌≡◌, refl, sym, ◌∙◌, ap, subst}
 use mathlib.Core.Bool.{true, false}
@@ -272,7 +272,7 @@ module _ (book : Rulebook) where
       (sized_order Authorization (eqb (tag_of s) sessions) (10 + 4 * t.row.handles) (10 + 4 * t.row.handles) s (omega arith) t.room t.sized).0 in
       rw (← gives_injective read.2, handles, areas, same) (refl, refl, refl)
 
-  -- ---- the layout of well_formed parts passes, and they are the parts read
+  -- ---- the layout of well-formed parts passes, and they are the parts read
 
   module _ (table : IsTable book.rows book.known) where
     module _ (f : Frame) (row : Row) (found : row_for book.rows f.code ≡ gives row) (w : WellFormed book.longest 4 row.handles f) (s : List ℕ)

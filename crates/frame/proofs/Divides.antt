@@ -15,7 +15,7 @@ use Rattle.base.proofs.Checks.{gives_injective, then_gives, goes_on, done_gives}
 
 -- what a reading gives of some bytes tells parts, and parts have a layout
 pub record Divides {D F : Type 0} (read : List ℕ → Said D) (parts : List ℕ → D → F) (layout : F → List ℕ) (Formed : F → Type 0) : Type 0 where
-  -- bytes pass exactly when they are the layout of well_formed parts
+  -- bytes pass exactly when they are the layout of well-formed parts
   pub exactly : (s : List ℕ) → AreBytes s → ((d : D) × (read s ≡ gives d)) ↔ ((f : F) × Formed f × (layout f ≡ s))
   -- the parts that were laid out are those read
   pub parts_read : (f : F) → Formed f → (d : D) × (read (layout f) ≡ gives d) × (parts (layout f) d ≡ f)
@@ -76,7 +76,7 @@ module _ {D B F : Type 0} (read : List ℕ → Said D) (parts : List ℕ → D �
 
 -- ---- the answers of calls that go by such a reading
 
--- an answer on the bytes s that can give a value: what it gives tells well_formed parts that are laid out as s, and where such parts are
+-- an answer on the bytes s that can give a value: what it gives tells well-formed parts that are laid out as s, and where such parts are
 -- laid out as s it gives what tells them
 pub record Tells {B F E : Type 0} (is : B → E) (parts : List ℕ → B → F) (layout : F → List ℕ) (Formed : F → Type 0) (s : List ℕ) (x : E) : Type 0 where
   pub well_formed : (v : B) → x ≡ is v → Formed (parts s v) × (layout (parts s v) ≡ s)

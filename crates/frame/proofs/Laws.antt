@@ -74,7 +74,7 @@ Promised n ps r Post Claim =
     Post κs a x (at_exit (ended_of n ps r) κs a v) →
     Claim κs a x (at_exit (ended_of n ps r) κs a v)
 
--- `validate` is done exactly when the bytes are the layout of well_formed parts
+-- `validate` is done exactly when the bytes are the layout of well-formed parts
 pub command_validate : Promised 1 command-validate-kinds.ps command-validate-kinds.r command-validate-reads.Post
     (λ κs a x later. AreBytes a.1.0.now → (x ≡ outcome.Done) ↔ ((f : Frame) × CommandParts (book_of a.0) f × (layout_command f ≡ a.1.0.now)))
 command_validate κs a x v met p =

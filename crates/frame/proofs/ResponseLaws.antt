@@ -1,4 +1,4 @@
--- A response to the command of a code passes exactly where it is the layout of well_formed parts, over any rules; the parts read
+-- A response to the command of a code passes exactly where it is the layout of well-formed parts, over any rules; the parts read
 -- are those laid out. An error response is a bare header, and a success response divides as the code's row says.
 -- Assumes nothing.
 use mathlib.Core.Path.{◌≡◌, refl, sym, ◌∙◌, ap, subst}
@@ -300,7 +300,7 @@ module _ (book : Rulebook) (cc : ℕ) where
       let t = steps_taken s d e in
       either_sound s p d t (cond_gives (eqb (code_of s) 0) (success_areas t.row.responses s) (error_areas book s) t.judged)
 
-  -- ---- the layout of well_formed parts passes, and they are the parts read
+  -- ---- the layout of well-formed parts passes, and they are the parts read
 
   module _ (f : Frame) (row : Row) (found : row_for book.rows cc ≡ gives row) (s : List ℕ) where
     module _ (success : f.code ≡ 0) (w : WellFormed book.longest 0 row.responses f)

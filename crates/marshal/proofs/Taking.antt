@@ -37,7 +37,7 @@ pub record Taken (limit : ℕ) (Formed : Frame → Type 0) (layout : Frame → L
 module _ (book : Rulebook) where
   -- ---- commands
 
-  -- well_formed parts, but not the sessions tag with no entry
+  -- well-formed parts, but not the sessions tag with no entry
   abbrev pub CommandFormed : Frame → Type 0
   CommandFormed f = CommandParts book f × (f.tag ≡ sessions → f.entries ≡ [] → ⊥)
 
