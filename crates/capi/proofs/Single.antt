@@ -146,193 +146,193 @@ module _ {A : Type 0} {of : A → List ℕ} {said : Said A} {old s t : List ℕ}
   array : Reports of said old s r → Reports of said old t q → s ≡ t
   array p e = p.array ∙ sym e.array
 
-skein_read_u16 : Single 2 skein-read-u16-kinds.ps skein-read-u16-kinds.r skein-read-u16-reads.Post
+pub skein_read_u16 : Single 2 skein-read-u16-kinds.ps skein-read-u16-kinds.r skein-read-u16-reads.Post
 skein_read_u16 κs a x y v w p q = (status p q, λ i. (tt, (tt, (array p q i, tt))))
 
-skein_write_u16 : Single 2 skein-write-u16-kinds.ps skein-write-u16-kinds.r skein-write-u16-reads.Post
+pub skein_write_u16 : Single 2 skein-write-u16-kinds.ps skein-write-u16-kinds.r skein-write-u16-reads.Post
 skein_write_u16 κs a x y v w p q = (status p.0 q.0, λ i. (tt, (tt, ((p.1 ∙ sym q.1) i, (array p.0 q.0 i, tt)))))
 
-skein_read_u32 : Single 2 skein-read-u32-kinds.ps skein-read-u32-kinds.r skein-read-u32-reads.Post
+pub skein_read_u32 : Single 2 skein-read-u32-kinds.ps skein-read-u32-kinds.r skein-read-u32-reads.Post
 skein_read_u32 κs a x y v w p q = (status p q, λ i. (tt, (tt, (array p q i, tt))))
 
-skein_write_u32 : Single 2 skein-write-u32-kinds.ps skein-write-u32-kinds.r skein-write-u32-reads.Post
+pub skein_write_u32 : Single 2 skein-write-u32-kinds.ps skein-write-u32-kinds.r skein-write-u32-reads.Post
 skein_write_u32 κs a x y v w p q = (status p.0 q.0, λ i. (tt, (tt, ((p.1 ∙ sym q.1) i, (array p.0 q.0 i, tt)))))
 
-skein_rc_read : Single 1 skein-rc-read-kinds.ps skein-rc-read-kinds.r skein-rc-read-reads.Post
+pub skein_rc_read : Single 1 skein-rc-read-kinds.ps skein-rc-read-kinds.r skein-rc-read-reads.Post
 skein_rc_read κs a x y v w p q = (status p q, λ i. (tt, (array p q i, tt)))
 
-skein_rc_value : Single 1 skein-rc-value-kinds.ps skein-rc-value-kinds.r skein-rc-value-reads.Post
+pub skein_rc_value : Single 1 skein-rc-value-kinds.ps skein-rc-value-kinds.r skein-rc-value-reads.Post
 skein_rc_value κs a x y v w p q = (status p q, λ i. (tt, (tt, (tt, (array p q i, tt)))))
 
-skein_tpm2b_validate_prefix : Single 2 skein-tpm2b-validate-prefix-kinds.ps skein-tpm2b-validate-prefix-kinds.r skein-tpm2b-validate-prefix-reads.Post
+pub skein_tpm2b_validate_prefix : Single 2 skein-tpm2b-validate-prefix-kinds.ps skein-tpm2b-validate-prefix-kinds.r skein-tpm2b-validate-prefix-reads.Post
 skein_tpm2b_validate_prefix κs a x y v w p q = (status p q, λ i. (tt, (tt, (array p q i, tt))))
 
-skein_tpm2b_validate : Single 2 skein-tpm2b-validate-kinds.ps skein-tpm2b-validate-kinds.r skein-tpm2b-validate-reads.Post
+pub skein_tpm2b_validate : Single 2 skein-tpm2b-validate-kinds.ps skein-tpm2b-validate-kinds.r skein-tpm2b-validate-reads.Post
 skein_tpm2b_validate κs a x y v w p q = (status p q, λ i. (tt, (tt, (array p q i, tt))))
 
-skein_tpm2b_cast : Single 2 skein-tpm2b-cast-kinds.ps skein-tpm2b-cast-kinds.r skein-tpm2b-cast-reads.Post
+pub skein_tpm2b_cast : Single 2 skein-tpm2b-cast-kinds.ps skein-tpm2b-cast-kinds.r skein-tpm2b-cast-reads.Post
 skein_tpm2b_cast κs a x y v w p q = (status p q, λ i. (tt, (tt, (array p q i, tt))))
 
-skein_tpm2b_cast_prefix : Single 2 skein-tpm2b-cast-prefix-kinds.ps skein-tpm2b-cast-prefix-kinds.r skein-tpm2b-cast-prefix-reads.Post
+pub skein_tpm2b_cast_prefix : Single 2 skein-tpm2b-cast-prefix-kinds.ps skein-tpm2b-cast-prefix-kinds.r skein-tpm2b-cast-prefix-reads.Post
 skein_tpm2b_cast_prefix κs a x y v w p q = (status p q, λ i. (tt, (tt, (array p q i, tt))))
 
-skein_tpm2b_size : Single 2 skein-tpm2b-size-kinds.ps skein-tpm2b-size-kinds.r skein-tpm2b-size-reads.Post
+pub skein_tpm2b_size : Single 2 skein-tpm2b-size-kinds.ps skein-tpm2b-size-kinds.r skein-tpm2b-size-reads.Post
 skein_tpm2b_size κs a x y v w p q = (status p q, λ i. (tt, (array p q i, tt)))
 
-skein_tpm2b_data : Single 2 skein-tpm2b-data-kinds.ps skein-tpm2b-data-kinds.r skein-tpm2b-data-reads.Post
+pub skein_tpm2b_data : Single 2 skein-tpm2b-data-kinds.ps skein-tpm2b-data-kinds.r skein-tpm2b-data-reads.Post
 skein_tpm2b_data κs a x y v w p q = (status p q, λ i. (tt, (array p q i, tt)))
 
-skein_tpm2b_is_empty : Single 2 skein-tpm2b-is-empty-kinds.ps skein-tpm2b-is-empty-kinds.r skein-tpm2b-is-empty-reads.Post
+pub skein_tpm2b_is_empty : Single 2 skein-tpm2b-is-empty-kinds.ps skein-tpm2b-is-empty-kinds.r skein-tpm2b-is-empty-reads.Post
 skein_tpm2b_is_empty κs a x y v w p q = (status p q, λ i. (tt, (array p q i, tt)))
 
-skein_tpm2b_len : Single 2 skein-tpm2b-len-kinds.ps skein-tpm2b-len-kinds.r skein-tpm2b-len-reads.Post
+pub skein_tpm2b_len : Single 2 skein-tpm2b-len-kinds.ps skein-tpm2b-len-kinds.r skein-tpm2b-len-reads.Post
 skein_tpm2b_len κs a x y v w p q = (status p q, λ i. (tt, (array p q i, tt)))
 
-skein_buffer64_new : Single 2 skein-buffer64-new-kinds.ps skein-buffer64-new-kinds.r skein-buffer64-new-reads.Post
+pub skein_buffer64_new : Single 2 skein-buffer64-new-kinds.ps skein-buffer64-new-kinds.r skein-buffer64-new-reads.Post
 skein_buffer64_new κs a x y v w p q = (status p.0 q.0, λ i. ((p.1 ∙ sym q.1) i, (array p.0 q.0 i, tt)))
 
-skein_buffer64_wire_len : Single 1 skein-buffer64-wire-len-kinds.ps skein-buffer64-wire-len-kinds.r skein-buffer64-wire-len-reads.Post
+pub skein_buffer64_wire_len : Single 1 skein-buffer64-wire-len-kinds.ps skein-buffer64-wire-len-kinds.r skein-buffer64-wire-len-reads.Post
 skein_buffer64_wire_len κs a x y v w p q = (status p q, λ i. (tt, (array p q i, tt)))
 
-skein_buffer64_held : Single 3 skein-buffer64-held-kinds.ps skein-buffer64-held-kinds.r skein-buffer64-held-reads.Post
+pub skein_buffer64_held : Single 3 skein-buffer64-held-kinds.ps skein-buffer64-held-kinds.r skein-buffer64-held-reads.Post
 skein_buffer64_held κs a x y v w p q = (status p.0 q.0, λ i. (tt, (tt, ((p.1 ∙ sym q.1) i, (array p.0 q.0 i, tt)))))
 
-skein_buffer64_marshal : Single 3 skein-buffer64-marshal-kinds.ps skein-buffer64-marshal-kinds.r skein-buffer64-marshal-reads.Post
+pub skein_buffer64_marshal : Single 3 skein-buffer64-marshal-kinds.ps skein-buffer64-marshal-kinds.r skein-buffer64-marshal-reads.Post
 skein_buffer64_marshal κs a x y v w p q = (status p.0 q.0, λ i. (tt, (tt, ((p.1 ∙ sym q.1) i, (array p.0 q.0 i, tt)))))
 
-skein_buffer64_eq : Single 3 skein-buffer64-eq-kinds.ps skein-buffer64-eq-kinds.r skein-buffer64-eq-reads.Post
+pub skein_buffer64_eq : Single 3 skein-buffer64-eq-kinds.ps skein-buffer64-eq-kinds.r skein-buffer64-eq-reads.Post
 skein_buffer64_eq κs a x y v w p q = (status p q, λ i. (tt, (tt, (tt, (tt, (array p q i, tt))))))
 
-skein_buffer64_push : Single 2 skein-buffer64-push-kinds.ps skein-buffer64-push-kinds.r skein-buffer64-push-reads.Post
+pub skein_buffer64_push : Single 2 skein-buffer64-push-kinds.ps skein-buffer64-push-kinds.r skein-buffer64-push-reads.Post
 skein_buffer64_push κs a x y v w p q = (status p.0 q.0, λ i. (tt, (tt, ((p.1 ∙ sym q.1) i, (array p.0 q.0 i, tt)))))
 
-skein_buffer64_extend : Single 3 skein-buffer64-extend-kinds.ps skein-buffer64-extend-kinds.r skein-buffer64-extend-reads.Post
+pub skein_buffer64_extend : Single 3 skein-buffer64-extend-kinds.ps skein-buffer64-extend-kinds.r skein-buffer64-extend-reads.Post
 skein_buffer64_extend κs a x y v w p q = (status p.0 q.0, λ i. (tt, (tt, ((p.1 ∙ sym q.1) i, (array p.0 q.0 i, tt)))))
 
-skein_buffer64_from_slice : Single 3 skein-buffer64-from-slice-kinds.ps skein-buffer64-from-slice-kinds.r skein-buffer64-from-slice-reads.Post
+pub skein_buffer64_from_slice : Single 3 skein-buffer64-from-slice-kinds.ps skein-buffer64-from-slice-kinds.r skein-buffer64-from-slice-reads.Post
 skein_buffer64_from_slice κs a x y v w p q = (status p.0 q.0, λ i. (tt, ((p.1 ∙ sym q.1) i, (array p.0 q.0 i, tt))))
 
-skein_buffer64_unmarshal : Single 3 skein-buffer64-unmarshal-kinds.ps skein-buffer64-unmarshal-kinds.r skein-buffer64-unmarshal-reads.Post
+pub skein_buffer64_unmarshal : Single 3 skein-buffer64-unmarshal-kinds.ps skein-buffer64-unmarshal-kinds.r skein-buffer64-unmarshal-reads.Post
 skein_buffer64_unmarshal κs a x y v w p q = (status p.0 q.0, λ i. (tt, ((p.1 ∙ sym q.1) i, (array p.0 q.0 i, tt))))
 
-skein_buffer1024_new : Single 2 skein-buffer1024-new-kinds.ps skein-buffer1024-new-kinds.r skein-buffer1024-new-reads.Post
+pub skein_buffer1024_new : Single 2 skein-buffer1024-new-kinds.ps skein-buffer1024-new-kinds.r skein-buffer1024-new-reads.Post
 skein_buffer1024_new κs a x y v w p q = (status p.0 q.0, λ i. ((p.1 ∙ sym q.1) i, (array p.0 q.0 i, tt)))
 
-skein_buffer1024_wire_len : Single 1 skein-buffer1024-wire-len-kinds.ps skein-buffer1024-wire-len-kinds.r skein-buffer1024-wire-len-reads.Post
+pub skein_buffer1024_wire_len : Single 1 skein-buffer1024-wire-len-kinds.ps skein-buffer1024-wire-len-kinds.r skein-buffer1024-wire-len-reads.Post
 skein_buffer1024_wire_len κs a x y v w p q = (status p q, λ i. (tt, (array p q i, tt)))
 
-skein_buffer1024_held : Single 3 skein-buffer1024-held-kinds.ps skein-buffer1024-held-kinds.r skein-buffer1024-held-reads.Post
+pub skein_buffer1024_held : Single 3 skein-buffer1024-held-kinds.ps skein-buffer1024-held-kinds.r skein-buffer1024-held-reads.Post
 skein_buffer1024_held κs a x y v w p q = (status p.0 q.0, λ i. (tt, (tt, ((p.1 ∙ sym q.1) i, (array p.0 q.0 i, tt)))))
 
-skein_buffer1024_marshal : Single 3 skein-buffer1024-marshal-kinds.ps skein-buffer1024-marshal-kinds.r skein-buffer1024-marshal-reads.Post
+pub skein_buffer1024_marshal : Single 3 skein-buffer1024-marshal-kinds.ps skein-buffer1024-marshal-kinds.r skein-buffer1024-marshal-reads.Post
 skein_buffer1024_marshal κs a x y v w p q = (status p.0 q.0, λ i. (tt, (tt, ((p.1 ∙ sym q.1) i, (array p.0 q.0 i, tt)))))
 
-skein_buffer1024_eq : Single 3 skein-buffer1024-eq-kinds.ps skein-buffer1024-eq-kinds.r skein-buffer1024-eq-reads.Post
+pub skein_buffer1024_eq : Single 3 skein-buffer1024-eq-kinds.ps skein-buffer1024-eq-kinds.r skein-buffer1024-eq-reads.Post
 skein_buffer1024_eq κs a x y v w p q = (status p q, λ i. (tt, (tt, (tt, (tt, (array p q i, tt))))))
 
-skein_buffer1024_push : Single 2 skein-buffer1024-push-kinds.ps skein-buffer1024-push-kinds.r skein-buffer1024-push-reads.Post
+pub skein_buffer1024_push : Single 2 skein-buffer1024-push-kinds.ps skein-buffer1024-push-kinds.r skein-buffer1024-push-reads.Post
 skein_buffer1024_push κs a x y v w p q = (status p.0 q.0, λ i. (tt, (tt, ((p.1 ∙ sym q.1) i, (array p.0 q.0 i, tt)))))
 
-skein_buffer1024_extend : Single 3 skein-buffer1024-extend-kinds.ps skein-buffer1024-extend-kinds.r skein-buffer1024-extend-reads.Post
+pub skein_buffer1024_extend : Single 3 skein-buffer1024-extend-kinds.ps skein-buffer1024-extend-kinds.r skein-buffer1024-extend-reads.Post
 skein_buffer1024_extend κs a x y v w p q = (status p.0 q.0, λ i. (tt, (tt, ((p.1 ∙ sym q.1) i, (array p.0 q.0 i, tt)))))
 
-skein_buffer1024_from_slice : Single 3 skein-buffer1024-from-slice-kinds.ps skein-buffer1024-from-slice-kinds.r skein-buffer1024-from-slice-reads.Post
+pub skein_buffer1024_from_slice : Single 3 skein-buffer1024-from-slice-kinds.ps skein-buffer1024-from-slice-kinds.r skein-buffer1024-from-slice-reads.Post
 skein_buffer1024_from_slice κs a x y v w p q = (status p.0 q.0, λ i. (tt, ((p.1 ∙ sym q.1) i, (array p.0 q.0 i, tt))))
 
-skein_buffer1024_unmarshal : Single 3 skein-buffer1024-unmarshal-kinds.ps skein-buffer1024-unmarshal-kinds.r skein-buffer1024-unmarshal-reads.Post
+pub skein_buffer1024_unmarshal : Single 3 skein-buffer1024-unmarshal-kinds.ps skein-buffer1024-unmarshal-kinds.r skein-buffer1024-unmarshal-reads.Post
 skein_buffer1024_unmarshal κs a x y v w p q = (status p.0 q.0, λ i. (tt, ((p.1 ∙ sym q.1) i, (array p.0 q.0 i, tt))))
 
-skein_table_find : Single 1 skein-table-find-kinds.ps skein-table-find-kinds.r skein-table-find-reads.Post
+pub skein_table_find : Single 1 skein-table-find-kinds.ps skein-table-find-kinds.r skein-table-find-reads.Post
 skein_table_find κs a x y v w p q = (status p q, λ i. (tt, (tt, (array p q i, tt))))
 
-skein_table_known : Single 1 skein-table-known-kinds.ps skein-table-known-kinds.r skein-table-known-reads.Post
+pub skein_table_known : Single 1 skein-table-known-kinds.ps skein-table-known-kinds.r skein-table-known-reads.Post
 skein_table_known κs a x y v w p q = (status p q, λ i. (tt, (tt, (array p q i, tt))))
 
-skein_tag_known : Single 1 skein-tag-known-kinds.ps skein-tag-known-kinds.r skein-tag-known-reads.Post
+pub skein_tag_known : Single 1 skein-tag-known-kinds.ps skein-tag-known-kinds.r skein-tag-known-reads.Post
 skein_tag_known κs a x y v w p q = (status p q, λ i. (tt, (array p q i, tt)))
 
-skein_frame_tag : Single 2 skein-frame-tag-kinds.ps skein-frame-tag-kinds.r skein-frame-tag-reads.Post
+pub skein_frame_tag : Single 2 skein-frame-tag-kinds.ps skein-frame-tag-kinds.r skein-frame-tag-reads.Post
 skein_frame_tag κs a x y v w p q = (status p q, λ i. (tt, (array p q i, tt)))
 
-skein_frame_size : Single 2 skein-frame-size-kinds.ps skein-frame-size-kinds.r skein-frame-size-reads.Post
+pub skein_frame_size : Single 2 skein-frame-size-kinds.ps skein-frame-size-kinds.r skein-frame-size-reads.Post
 skein_frame_size κs a x y v w p q = (status p q, λ i. (tt, (array p q i, tt)))
 
-skein_frame_len : Single 2 skein-frame-len-kinds.ps skein-frame-len-kinds.r skein-frame-len-reads.Post
+pub skein_frame_len : Single 2 skein-frame-len-kinds.ps skein-frame-len-kinds.r skein-frame-len-reads.Post
 skein_frame_len κs a x y v w p q = (status p q, λ i. (tt, (array p q i, tt)))
 
-skein_frame_is_empty : Single 2 skein-frame-is-empty-kinds.ps skein-frame-is-empty-kinds.r skein-frame-is-empty-reads.Post
+pub skein_frame_is_empty : Single 2 skein-frame-is-empty-kinds.ps skein-frame-is-empty-kinds.r skein-frame-is-empty-reads.Post
 skein_frame_is_empty κs a x y v w p q = (status p q, λ i. (tt, (array p q i, tt)))
 
-skein_frame_set_tag : Single 2 skein-frame-set-tag-kinds.ps skein-frame-set-tag-kinds.r skein-frame-set-tag-reads.Post
+pub skein_frame_set_tag : Single 2 skein-frame-set-tag-kinds.ps skein-frame-set-tag-kinds.r skein-frame-set-tag-reads.Post
 skein_frame_set_tag κs a x y v w p q = (status p.0 q.0, λ i. (tt, ((p.1 ∙ sym q.1) i, (array p.0 q.0 i, tt))))
 
-skein_command_cast : Single 2 skein-command-cast-kinds.ps skein-command-cast-kinds.r skein-command-cast-reads.Post
+pub skein_command_cast : Single 2 skein-command-cast-kinds.ps skein-command-cast-kinds.r skein-command-cast-reads.Post
 skein_command_cast κs a x y v w p q = (status p q, λ i. (tt, (tt, (array p q i, tt))))
 
-skein_command_handles : Single 2 skein-command-handles-kinds.ps skein-command-handles-kinds.r skein-command-handles-reads.Post
+pub skein_command_handles : Single 2 skein-command-handles-kinds.ps skein-command-handles-kinds.r skein-command-handles-reads.Post
 skein_command_handles κs a x y v w p q = (status p q, λ i. (tt, (tt, (array p q i, tt))))
 
-skein_command_auth_area : Single 2 skein-command-auth-area-kinds.ps skein-command-auth-area-kinds.r skein-command-auth-area-reads.Post
+pub skein_command_auth_area : Single 2 skein-command-auth-area-kinds.ps skein-command-auth-area-kinds.r skein-command-auth-area-reads.Post
 skein_command_auth_area κs a x y v w p q = (status p q, λ i. (tt, (tt, (array p q i, tt))))
 
-skein_command_parameters : Single 2 skein-command-parameters-kinds.ps skein-command-parameters-kinds.r skein-command-parameters-reads.Post
+pub skein_command_parameters : Single 2 skein-command-parameters-kinds.ps skein-command-parameters-kinds.r skein-command-parameters-reads.Post
 skein_command_parameters κs a x y v w p q = (status p q, λ i. (tt, (tt, (array p q i, tt))))
 
-skein_command_cast_prefix : Single 2 skein-command-cast-prefix-kinds.ps skein-command-cast-prefix-kinds.r skein-command-cast-prefix-reads.Post
+pub skein_command_cast_prefix : Single 2 skein-command-cast-prefix-kinds.ps skein-command-cast-prefix-kinds.r skein-command-cast-prefix-reads.Post
 skein_command_cast_prefix κs a x y v w p q = (status p q, λ i. (tt, (tt, (array p q i, tt))))
 
-skein_command_validate : Single 2 skein-command-validate-kinds.ps skein-command-validate-kinds.r skein-command-validate-reads.Post
+pub skein_command_validate : Single 2 skein-command-validate-kinds.ps skein-command-validate-kinds.r skein-command-validate-reads.Post
 skein_command_validate κs a x y v w p q = (status p q, λ i. (tt, (tt, (array p q i, tt))))
 
-skein_command_cc : Single 2 skein-command-cc-kinds.ps skein-command-cc-kinds.r skein-command-cc-reads.Post
+pub skein_command_cc : Single 2 skein-command-cc-kinds.ps skein-command-cc-kinds.r skein-command-cc-reads.Post
 skein_command_cc κs a x y v w p q = (status p q, λ i. (tt, (tt, (array p q i, tt))))
 
-skein_command_set_cc : Single 2 skein-command-set-cc-kinds.ps skein-command-set-cc-kinds.r skein-command-set-cc-reads.Post
+pub skein_command_set_cc : Single 2 skein-command-set-cc-kinds.ps skein-command-set-cc-kinds.r skein-command-set-cc-reads.Post
 skein_command_set_cc κs a x y v w p q = (status p.0 q.0, λ i. (tt, (tt, ((p.1 ∙ sym q.1) i, (array p.0 q.0 i, tt)))))
 
-skein_command_parts : Single 2 skein-command-parts-kinds.ps skein-command-parts-kinds.r skein-command-parts-reads.Post
+pub skein_command_parts : Single 2 skein-command-parts-kinds.ps skein-command-parts-kinds.r skein-command-parts-reads.Post
 skein_command_parts κs a x y v w p q = (
   λ i. record { refusal = status p.0 q.0 i; command = (p.1 ∙ sym q.1) i },
   λ i. (tt, (tt, (array p.0 q.0 i, tt))),
 )
 
-skein_command_write : Single 5 skein-command-write-kinds.ps skein-command-write-kinds.r skein-command-write-reads.Post
+pub skein_command_write : Single 5 skein-command-write-kinds.ps skein-command-write-kinds.r skein-command-write-reads.Post
 skein_command_write κs a x y v w p q = (
   status p.0 q.0,
   λ i. (tt, (tt, (tt, (tt, (tt, (tt, (tt, ((p.1 ∙ sym q.1) i, (array p.0 q.0 i, tt))))))))),
 )
 
-skein_response_cast : Single 2 skein-response-cast-kinds.ps skein-response-cast-kinds.r skein-response-cast-reads.Post
+pub skein_response_cast : Single 2 skein-response-cast-kinds.ps skein-response-cast-kinds.r skein-response-cast-reads.Post
 skein_response_cast κs a x y v w p q = (status p q, λ i. (tt, (tt, (array p q i, tt))))
 
-skein_response_cast_prefix : Single 2 skein-response-cast-prefix-kinds.ps skein-response-cast-prefix-kinds.r skein-response-cast-prefix-reads.Post
+pub skein_response_cast_prefix : Single 2 skein-response-cast-prefix-kinds.ps skein-response-cast-prefix-kinds.r skein-response-cast-prefix-reads.Post
 skein_response_cast_prefix κs a x y v w p q = (status p q, λ i. (tt, (tt, (array p q i, tt))))
 
-skein_response_rc : Single 2 skein-response-rc-kinds.ps skein-response-rc-kinds.r skein-response-rc-reads.Post
+pub skein_response_rc : Single 2 skein-response-rc-kinds.ps skein-response-rc-kinds.r skein-response-rc-reads.Post
 skein_response_rc κs a x y v w p q = (status p q, λ i. (tt, (tt, (array p q i, tt))))
 
-skein_response_body : Single 2 skein-response-body-kinds.ps skein-response-body-kinds.r skein-response-body-reads.Post
+pub skein_response_body : Single 2 skein-response-body-kinds.ps skein-response-body-kinds.r skein-response-body-reads.Post
 skein_response_body κs a x y v w p q = (status p q, λ i. (tt, (array p q i, tt)))
 
-skein_response_validate : Single 2 skein-response-validate-kinds.ps skein-response-validate-kinds.r skein-response-validate-reads.Post
+pub skein_response_validate : Single 2 skein-response-validate-kinds.ps skein-response-validate-kinds.r skein-response-validate-reads.Post
 skein_response_validate κs a x y v w p q = (status p q, λ i. (tt, (tt, (tt, (array p q i, tt)))))
 
-skein_response_set_rc : Single 2 skein-response-set-rc-kinds.ps skein-response-set-rc-kinds.r skein-response-set-rc-reads.Post
+pub skein_response_set_rc : Single 2 skein-response-set-rc-kinds.ps skein-response-set-rc-kinds.r skein-response-set-rc-reads.Post
 skein_response_set_rc κs a x y v w p q = (status p.0 q.0, λ i. (tt, (tt, ((p.1 ∙ sym q.1) i, (array p.0 q.0 i, tt)))))
 
-skein_response_parts : Single 2 skein-response-parts-kinds.ps skein-response-parts-kinds.r skein-response-parts-reads.Post
+pub skein_response_parts : Single 2 skein-response-parts-kinds.ps skein-response-parts-kinds.r skein-response-parts-reads.Post
 skein_response_parts κs a x y v w p q = (
   λ i. record { refusal = status p.0 q.0 i; response = (p.1 ∙ sym q.1) i },
   λ i. (tt, (tt, (tt, (array p.0 q.0 i, tt)))),
 )
 
-skein_response_write : Single 5 skein-response-write-kinds.ps skein-response-write-kinds.r skein-response-write-reads.Post
+pub skein_response_write : Single 5 skein-response-write-kinds.ps skein-response-write-kinds.r skein-response-write-reads.Post
 skein_response_write κs a x y v w p q = (
   status p.0 q.0,
   λ i. (tt, (tt, (tt, (tt, (tt, (tt, (tt, ((p.1 ∙ sym q.1) i, (array p.0 q.0 i, tt))))))))),
 )
 
-skein_command_write_array : SingleBy of-skein-command-write-array.ended (λ M 𝓤 𝓛. of-skein-command-write-array.clauses 𝓛) (λ κs x y. x ≡ y)
+pub skein_command_write_array : SingleBy of-skein-command-write-array.ended (λ M 𝓤 𝓛. of-skein-command-write-array.clauses 𝓛) (λ κs x y. x ≡ y)
 skein_command_write_array = record {
   Post = _;
   says = λ {𝓤 = 𝓤} 𝓛 mem run κs a g r s. both 𝓤 _ _;
@@ -342,7 +342,7 @@ skein_command_write_array = record {
   );
 }
 
-skein_response_write_array : SingleBy of-skein-response-write-array.ended (λ M 𝓤 𝓛. of-skein-response-write-array.clauses 𝓛) (λ κs x y. x ≡ y)
+pub skein_response_write_array : SingleBy of-skein-response-write-array.ended (λ M 𝓤 𝓛. of-skein-response-write-array.clauses 𝓛) (λ κs x y. x ≡ y)
 skein_response_write_array = record {
   Post = _;
   says = λ {𝓤 = 𝓤} 𝓛 mem run κs a g r s. both 𝓤 _ _;
@@ -354,20 +354,20 @@ skein_response_write_array = record {
 
 -- ---- the nonce keeper
 
-skein_keeper_new : Single 2 skein-keeper-new-kinds.ps skein-keeper-new-kinds.r skein-keeper-new-reads.Post
+pub skein_keeper_new : Single 2 skein-keeper-new-kinds.ps skein-keeper-new-kinds.r skein-keeper-new-reads.Post
 skein_keeper_new κs a x y v w p q = (status p.0 q.0, λ i. ((p.1 ∙ sym q.1) i, (array p.0 q.0 i, tt)))
 
-skein_keeper_open : Single 3 skein-keeper-open-kinds.ps skein-keeper-open-kinds.r skein-keeper-open-reads.Post
+pub skein_keeper_open : Single 3 skein-keeper-open-kinds.ps skein-keeper-open-kinds.r skein-keeper-open-reads.Post
 skein_keeper_open κs a x y v w p q = (status p.0 q.0, λ i. (tt, (tt, ((p.1 ∙ sym q.1) i, (array p.0 q.0 i, tt)))))
 
-skein_keeper_answer : Single 4 skein-keeper-answer-kinds.ps skein-keeper-answer-kinds.r skein-keeper-answer-reads.Post
+pub skein_keeper_answer : Single 4 skein-keeper-answer-kinds.ps skein-keeper-answer-kinds.r skein-keeper-answer-reads.Post
 skein_keeper_answer κs a x y v w p q = (status p.0 q.0, λ i. (tt, (tt, (tt, ((p.1 ∙ sym q.1) i, (array p.0 q.0 i, tt))))))
 
-skein_keeper_close : Single 2 skein-keeper-close-kinds.ps skein-keeper-close-kinds.r skein-keeper-close-reads.Post
+pub skein_keeper_close : Single 2 skein-keeper-close-kinds.ps skein-keeper-close-kinds.r skein-keeper-close-reads.Post
 skein_keeper_close κs a x y v w p q = (status p.0 q.0, λ i. (tt, ((p.1 ∙ sym q.1) i, (array p.0 q.0 i, tt))))
 
-skein_keeper_ask : Single 2 skein-keeper-ask-kinds.ps skein-keeper-ask-kinds.r skein-keeper-ask-reads.Post
+pub skein_keeper_ask : Single 2 skein-keeper-ask-kinds.ps skein-keeper-ask-kinds.r skein-keeper-ask-reads.Post
 skein_keeper_ask κs a x y v w p q = (status p q, λ i. (tt, (tt, (array p q i, tt))))
 
-skein_keeper_len : Single 2 skein-keeper-len-kinds.ps skein-keeper-len-kinds.r skein-keeper-len-reads.Post
+pub skein_keeper_len : Single 2 skein-keeper-len-kinds.ps skein-keeper-len-kinds.r skein-keeper-len-reads.Post
 skein_keeper_len κs a x y v w p q = (status p q, λ i. (tt, (array p q i, tt)))
