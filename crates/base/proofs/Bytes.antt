@@ -7,6 +7,8 @@ use native.Mathlib.Nat.{pow-suc, pow-succ', mod-eq_of_lt, mod-lt, mul_assoc, mul
 use native.Mathlib.Omega.{arith}
 use lib.Arith.{digits_lt, digits_div, mod-mul}
 use lib.ListN.{length, get_or, take, drop}
+use mir.Syntax.{w16, w32}
+use Rattle.std.specs.Int.{from_be_bytes, to_be_bytes}
 use Rattle.base.specs.Bytes.{AreBytes, number, bytes}
 
 -- ---- lists of bytes
@@ -102,3 +104,24 @@ four_bytes n h =
     let p : n / 16777216 ≡ (n / 16777216) % 256 = omega arith in
     let q : n % 256 ≡ (n / 1) % 256 = omega arith in
     λ i. p i ∷ n / 65536 % 256 ∷ n / 256 % 256 ∷ q i ∷ []
+
+-- the library's words for the same
+pub two_big_endian : (n : ℕ) → to_be_bytes w16 n ≡ bytes 2 n
+unfolding bytes
+two_big_endian n =
+    let q : n % 256 ≡ (n / 1) % 256 = omega arith in
+    λ i. n / 256 % 256 ∷ q i ∷ []
+
+pub four_big_endian : (n : ℕ) → to_be_bytes w32 n ≡ bytes 4 n
+unfolding bytes
+four_big_endian n =
+    let q : n % 256 ≡ (n / 1) % 256 = omega arith in
+    λ i. n / 16777216 % 256 ∷ n / 65536 % 256 ∷ n / 256 % 256 ∷ q i ∷ []
+
+pub two_number : (a b : ℕ) → from_be_bytes w16 (a ∷ b ∷ []) ≡ number (a ∷ b ∷ [])
+unfolding number
+two_number a b = omega arith
+
+pub four_number : (a b c d : ℕ) → from_be_bytes w32 (a ∷ b ∷ c ∷ d ∷ []) ≡ number (a ∷ b ∷ c ∷ d ∷ [])
+unfolding number
+four_number a b c d = omega arith

@@ -44,7 +44,6 @@ use denote.Lend.{LentShrs, lends_shr_slice}
 use denote.Slice.{slice_val, slice_ty, MutSlice, ShrSlice, mut_slice_vals, mut_slice_Tells, mut_slice_Lawful, Room, mut_slice_at}
 use denote.Signature.{Signature, plain, mut_slice_of, shr_slice_of}
 use denote.Steps.{peeks, heard, nothing, only}
-use denote.Enum.Laws as EL
 use denote.Triple.Statement.{Contract, Triple}
 use denote.Triple.Call.{calls_at}
 use denote.Triple.Entry.{on_entry}
@@ -52,12 +51,11 @@ use denote.Triple.Spec.{Meets, triple_of}
 use denote.Triple.Clauses.{Clauses, Ended, ensured, lasts, closing}
 use denote.Triple.Walked.{says, Stays, stay_dropped, on_exit, walk_of, Goes-spent_slice, ends_at}
 use denote.Exit.{yes, no}
-use Rattle.base.specs.declared.answer.Range.{Range}
 use Rattle.base.specs.Answer.{Part, said_range}
 use Rattle.base.specs.Parts.{IsPartMut, LendsPart}
 use Rattle.base.specs.Said.{Said}
-use Rattle.base.specs.contracts.answer.Range as R
-use Rattle.base.proofs.answer.Range.TheLaws as R'
+use Rattle.base.proofs.Ranges.{Range}
+use Rattle.base.proofs.Ranges as R
 use Rattle.base.specs.contracts.part.part_mut as part_mut
 use Rattle.base.proofs.part.part_mut.Symbol.{name as #part_mut}
 
@@ -85,14 +83,14 @@ module _ {M : Type 1} {𝓤 : Ura M} (𝓛 : Logic 𝓤) (mem : Memory → SProp
   Vals = List Val × (List Val × Unit {0})
 
   abbrev vals : Vals
-  vals = (valued b o ys ∷ [], (R'.lowered r ∷ [], tt))
+  vals = (valued b o ys ∷ [], ((R.lowers).lowered r ∷ [], tt))
 
   abbrev pub to_part : (PartMut 𝓛 mem run).Ghost
   to_part = (((κ, tt), (q, tt), tt, arg, vals), tt)
 
-  pub goes_part : ent 𝓤 (⋆ 𝓛 (‵ ((MutSlice (named 0) κ u8).own_val (slice b o γ ys) (valued b o ys ∷ [])) ∷ ‵ (flft κ q) ∷ ‵ ((R.the_row).own_val r (R'.lowered r ∷ [])) ∷ [])) ((PartMut 𝓛 mem run).pre to_part)
+  pub goes_part : ent 𝓤 (⋆ 𝓛 (‵ ((MutSlice (named 0) κ u8).own_val (slice b o γ ys) (valued b o ys ∷ [])) ∷ ‵ (flft κ q) ∷ ‵ ((R.the_row).own_val r ((R.lowers).lowered r ∷ [])) ∷ [])) ((PartMut 𝓛 mem run).pre to_part)
   goes_part =
-      qed 𝓛 (‵ ((MutSlice (named 0) κ u8).own_val (slice b o γ ys) (valued b o ys ∷ [])) ∷ ‵ (flft κ q) ∷ ‵ ((R.the_row).own_val r (R'.lowered r ∷ [])) ∷ []) ∵
+      qed 𝓛 (‵ ((MutSlice (named 0) κ u8).own_val (slice b o γ ys) (valued b o ys ∷ [])) ∷ ‵ (flft κ q) ∷ ‵ ((R.the_row).own_val r ((R.lowers).lowered r ∷ [])) ∷ []) ∵
       nothing ! $ move ! (3 ∷ 0 ∷ []) $ fjoin ! $ move ! (1 ∷ 0 ∷ []) $ fjoin ! $ nothing ! $ move ! (2 ∷ 0 ∷ []) $ join ! $ join ! $ frame ! $ done !
 
   pub said_part : (t : MutBor (List ℕ)) → ent 𝓤 (ensured 𝓛 part_mut.ended (part_mut.clauses 𝓛 mem run) (κ, tt) arg tt t)
@@ -136,7 +134,7 @@ module _ (g : Callee) (ρ : List ℕ → Said Part) where
     params = 1;
     locals = local (slice_ty (ty_ref (named 0) mut (ty_int w8))) value_local
         ∷ local (slice_ty (ty_ref (named 0) mut (ty_int w8))) value_local
-        ∷ local R'.mir value_local
+        ∷ local ((R.lowers).mir) value_local
         ∷ local (ty_ref erased imm (ty_int w8)) value_local
         ∷ local (slice_ty (ty_ref erased imm (ty_int w8))) value_local
         ∷ local (ty_ref erased mut (ty_int w8)) value_local
@@ -243,9 +241,9 @@ module _ (g : Callee) (ρ : List ℕ → Said Part) where
           calls_at ! fm (Ranges 𝓛) known (to_range α) (and_then ! (load ! (from ! (stop !)) (look ! 9 refl)) (no_more !)) (λ z.
           use1 𝓛 (later (some (λ (r : Range). ((‵ (flft (α ∷ []) full_share) ⊛ ‵ ftrue) ⊛ ‵ ((R.the_row).own_val r (z ∷ []))) ⊛ raw (ensured 𝓛 ranges_ended (ranges_clauses 𝓛) (α ∷ [], tt) (seen, tt) tt r)))) (id⊢ 𝓤 _) $ await ! tt $ pick ! (λ r.
           split ! $ move ! (1 ∷ []) $ use1 𝓛 (raw (fact 𝓤 (said_range r ≡ ρ ys))) (said_range_lem α r) $ heard ! (said_range r ≡ ρ ys) (λ told. split ! $ move ! (1 ∷ []) $
-          peeks ! R.the_row (Is R.the_row) (shows 𝓛 R.the_row) r (z ∷ []) (λ is. land ! (from ! (stop !)) (init ! 14 refl ((EL.lawful R.the_type R'.the_laws 𝓛 tt).typed r _ is).0) $
-          rewrite ! 14 (λ (y : Val). ‵ (fat full_share R'.mir l₂ 0 y)) (ap only ((R'.lowers).val_is r (z ∷ []) is)) refl $
-          rewrite ! 0 (λ (ws : List Val). ‵ ((R.the_row).own_val r ws)) ((R'.lowers).val_is r (z ∷ []) is) refl $
+          peeks ! R.the_row (Is R.the_row) (shows 𝓛 R.the_row) r (z ∷ []) (λ is. land ! (from ! (stop !)) (init ! 14 refl (((R.the_laws).lawful 𝓛).typed r _ is).0) $
+          rewrite ! 14 (λ (y : Val). ‵ (fat full_share (R.lowers).mir l₂ 0 y)) (ap only ((R.lowers).val_is r (z ∷ []) is)) refl $
+          rewrite ! 0 (λ (ws : List Val). ‵ ((R.the_row).own_val r ws)) ((R.lowers).val_is r (z ∷ []) is) refl $
           -- [what the range owns; α's token; what the lender keeps; ..]: the lifetime ends, and the slice is back
           move ! (1 ∷ []) $ split ! $ lft_end ! tt $ move ! (0 ∷ 3 ∷ []) $ lent_back ! tt $ fsplit ! $ drop ! $ move ! (0 ∷ 3 ∷ 4 ∷ 5 ∷ []) $ closes_slice ! tt u8 ys ys refl b o $
           -- [the slice's half; its borrow; the token; true; what the range owns; _6; …]

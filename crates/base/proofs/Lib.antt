@@ -1,4 +1,5 @@
 pub mod Answers
+pub mod Ranges
 pub mod ByValue
 pub mod Bytes
 pub mod Checks

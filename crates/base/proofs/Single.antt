@@ -4,7 +4,7 @@ use mathlib.Core.Path.{refl, sym, ◌∙◌}
 use denote.Ref.{as_bor}
 use Rattle.base.specs.Single.{Single, SinglePart}
 use Rattle.base.proofs.Refusals.{numbered_injective}
-use Rattle.base.proofs.Answers.{said_number16_injective, said_number32_injective, said_outcome_injective, said_range_injective}
+use Rattle.base.proofs.Answers.{said_injective, said_range_injective}
 use Rattle.base.proofs.Parts.{same_part}
 use Rattle.base.proofs.code.TpmSt.refused.Kinds as TpmSt-refused-kinds
 use Rattle.base.proofs.code.TpmSt.refused.Reads as TpmSt-refused-reads
@@ -59,19 +59,19 @@ be32 : Single 0 be32-kinds.ps be32-kinds.r be32-reads.Post
 be32 κs a x y v w p q = (p ∙ sym q, refl)
 
 read_u16 : Single 1 read-u16-kinds.ps read-u16-kinds.r read-u16-reads.Post
-read_u16 κs a x y v w p q = (said_number16_injective x y (p ∙ sym q), refl)
+read_u16 κs a x y v w p q = (said_injective x y (p ∙ sym q), refl)
 
 read_u32 : Single 1 read-u32-kinds.ps read-u32-kinds.r read-u32-reads.Post
-read_u32 κs a x y v w p q = (said_number32_injective x y (p ∙ sym q), refl)
+read_u32 κs a x y v w p q = (said_injective x y (p ∙ sym q), refl)
 
 write_u16 : Single 1 write-u16-kinds.ps write-u16-kinds.r write-u16-reads.Post
-write_u16 κs a x y v w p q = (said_outcome_injective x y (p.0 ∙ sym q.0), λ i. ((p.1 ∙ sym q.1) i, (tt, (tt, tt))))
+write_u16 κs a x y v w p q = (said_injective x y (p.0 ∙ sym q.0), λ i. ((p.1 ∙ sym q.1) i, (tt, (tt, tt))))
 
 write_u32 : Single 1 write-u32-kinds.ps write-u32-kinds.r write-u32-reads.Post
-write_u32 κs a x y v w p q = (said_outcome_injective x y (p.0 ∙ sym q.0), λ i. ((p.1 ∙ sym q.1) i, (tt, (tt, tt))))
+write_u32 κs a x y v w p q = (said_injective x y (p.0 ∙ sym q.0), λ i. ((p.1 ∙ sym q.1) i, (tt, (tt, tt))))
 
 write_bytes : Single 2 write-bytes-kinds.ps write-bytes-kinds.r write-bytes-reads.Post
-write_bytes κs a x y v w p q = (said_outcome_injective x y (p.0 ∙ sym q.0), λ i. ((p.1 ∙ sym q.1) i, (tt, (tt, tt))))
+write_bytes κs a x y v w p q = (said_injective x y (p.0 ∙ sym q.0), λ i. ((p.1 ∙ sym q.1) i, (tt, (tt, tt))))
 
 behind : Single 0 behind_kinds.ps behind_kinds.r behind-reads.Post
 behind κs a x y v w p q = (said_range_injective x y (p ∙ sym q), refl)

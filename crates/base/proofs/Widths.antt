@@ -1,18 +1,20 @@
 -- What every width of field shares: each law is over the width w, and the proofs of the functions cite it.
 -- Assumes nothing.
-use mathlib.Core.Path.{◌≡◌, refl, sym, ◌∙◌, ap}
+use mathlib.Core.Path.{◌≡◌, refl, sym, ◌∙◌, ap, subst}
 use mathlib.Core.List.{List, [], ◌∷◌}
 use Prim.Native.Nat.{ℕ, ◌+◌, ◌-◌, ◌≤◌, ◌<◌}
 use native.Mathlib.Omega.{arith}
 use borrow.Author.Tests.{le-leb, lt-leb}
+use lib.Dec.{T as Holds, leb, leb→le}
 use lib.ListN.{length, take, drop}
-use lib.Seq.{sets, take_at}
+use lib.Seq.{take_at}
 use Rattle.base.specs.declared.error.Area.{Area}
 use Rattle.base.specs.Bytes.{number, bytes}
 use Rattle.base.specs.Said.{in_area, no_area, gives, refuses, within, done, after}
-use Rattle.base.specs.Field.{read_field, write_field, laid, write_bytes}
+use Rattle.base.specs.Field.{read_bytes, read_field, write_field, laid, write_bytes}
 use Rattle.base.proofs.Bytes.{length_bytes}
-use Rattle.base.proofs.Lists.{span, take_drop_span, stored}
+use Rattle.base.proofs.Checks.{gives_injective, needs_gives, within_gives}
+use Rattle.base.proofs.Lists.{span, take_drop_span}
 
 module _ (w place : ℕ) (s : List ℕ) where
   pub read_short : (area : Area) (left : ℕ) → left ≡ length s - place → left < w → refuses (in_area area (1 ∷ place ∷ w ∷ left ∷ [])) ≡ within area (read_field w place s)
@@ -21,20 +23,17 @@ module _ (w place : ℕ) (s : List ℕ) where
   pub read_whole : (area : Area) → w ≤ length s - place → gives (number (span s place w)) ≡ within area (read_field w place s)
   read_whole area h = simp (le-leb w (length s - place) h) (ap (λ (t : List ℕ). gives (number t)) (sym (take_drop_span w place s h)))
 
-  module _ (n : ℕ) where
-    pub write_short : (left : ℕ) → left ≡ length s - place → left < w
-        → (refuses (no_area (9 ∷ place ∷ w ∷ left ∷ [])) ≡ done (write_field w place n s)) × (s ≡ after s (write_field w place n s))
-    write_short left e h = (
-      simp (lt-leb w (length s - place) (omega arith)) (ap (λ (k : ℕ). refuses (no_area (9 ∷ place ∷ w ∷ k ∷ []))) e),
-      simp (lt-leb w (length s - place) (omega arith)),
-    )
+  -- the number of the bytes that were read
+  pub read_number : (area : Area) (t : List ℕ) (n : ℕ) → (t ≡ span s place w → n ≡ number (span s place w))
+      → gives t ≡ within area (read_bytes w place s) → gives n ≡ within area (read_field w place s)
+  read_number area t n e p =
+      let read = needs_gives (leb w (length s - place)) _ (gives (take w (drop place s))) (within_gives area (read_bytes w place s) (sym p)) in
+      let there : w ≤ length s - place = leb→le w (length s - place) (subst Holds (sym read.0) tt) in
+      let is : t ≡ span s place w = sym (gives_injective read.1) ∙ take_drop_span w place s there in
+      ap gives (e is) ∙ read_whole area there
 
-    pub write_whole : (v : List ℕ) → v ≡ bytes w n → w ≤ length s - place → place ≤ length s
-        → (gives tt ≡ done (write_field w place n s)) × (sets s place v ≡ after s (write_field w place n s))
-    write_whole v e h k = (
-      simp (le-leb w (length s - place) h),
-      simp (le-leb w (length s - place) h) (rw e (rw length_bytes at (stored s place (bytes w n) (rw length_bytes h) k))),
-    )
+  pub write_number : (n : ℕ) (t : List ℕ) → t ≡ bytes w n → write_bytes place t s ≡ write_field w place n s
+  write_number n t e = ap (λ (u : List ℕ). write_bytes place u s) e ∙ rw length_bytes refl
 
 -- ---- bytes
 

@@ -5,6 +5,13 @@ use Rattle.std.specs.Prelude.{ℕ, ◌+◌, ◌-◌, List, [], ◌∷◌, ◌++�
 use Rattle.base.specs.Bytes.{number, bytes}
 use Rattle.base.specs.Said.{Said, gives, needs, no_area}
 
+-- the bytes of a field
+abbrev pub read_bytes : ℕ → ℕ → List ℕ → Said (List ℕ)
+read_bytes w place s =
+    needs (leb w (length s - place))
+    (no_area (1 ∷ place ∷ w ∷ (length s - place) ∷ []))
+    (gives (take w (drop place s)))
+
 abbrev pub read_field : ℕ → ℕ → List ℕ → Said ℕ
 read_field w place s =
     needs (leb w (length s - place)) (no_area (1 ∷ place ∷ w ∷ (length s - place) ∷ []))

@@ -1,6 +1,7 @@
 // The nine refusals, under the names of the crate's TpmError. Document 01 gives each its number and the order of its
 // fields (specs/Error.antt), document 02 the area of the frame that it speaks of.
 ghost use Rattle.std.specs.Prelude.{◌≡◌};
+ghost use Rattle.base.specs.declared.error.WriteError.TheVariants.{Common};
 ghost use Rattle.base.specs.Error.{area_number};
 
 // The area of a frame; none for a writer and for a call that has no frame.
@@ -18,13 +19,7 @@ impl Area {
     pub fn number(self) -> u32
         ensures { result ≡ area_number self }
     {
-        match self {
-            Area::None => 0,
-            Area::Header => 1,
-            Area::Handles => 2,
-            Area::Authorization => 3,
-            Area::Parameters => 4,
-        }
+        self as u32
     }
 }
 
@@ -82,4 +77,12 @@ pub enum TpmError {
 pub enum WriteError {
     Common(TpmError),
     IntegerTooLarge { offset: usize, value: u64 },
+}
+
+impl From<TpmError> for WriteError {
+    ghost from_gives = { λ e r. r ≡ Common e };
+
+    fn from(e: TpmError) -> WriteError {
+        WriteError::Common(e)
+    }
 }

@@ -1,141 +1,97 @@
 // Big-endian fields of 16 and 32 bits, read from and written to a place of a lent slice, and bytes copied to one. Every
 // slice and every place is taken: where the bytes are not there, the answer is the refusal and nothing is touched. A read
 // is told the area of the frame that it is in.
-ghost use Rattle.std.specs.Prelude.{◌≡◌, [], ◌∷◌, ◌-◌, ◌≤◌, length};
+ghost use Rattle.std.specs.Prelude.{◌≡◌, [], ◌∷◌, ◌-◌, ◌<◌};
 ghost use Rattle.base.specs.Bytes.{number};
 ghost use Rattle.base.specs.Said.{after, done, within};
-ghost use Rattle.base.specs.Answer.{said_number16, said_number32, said_outcome};
-ghost use Rattle.base.specs.Field.{laid, read_field, write_bytes, write_field};
+ghost use Rattle.base.specs.Answer.{said};
+ghost use Rattle.base.specs.Field.{read_bytes, read_field, write_bytes, write_field};
 
-use crate::answer::{Number16, Number32, Outcome};
 use crate::error::{Area, TpmError};
 
 // How many of len bytes stand at a place and behind it.
 pub fn left(len: usize, place: usize) -> usize
     ensures { result ≡ len - place }
 {
-    if place < len { len - place } else { 0 }
+    len.saturating_sub(place)
 }
 
 // The number that two bytes stand for.
+#[tactic(auto, unfolding(crate::specs::Bytes::number))]
 pub fn be16(a: u8, b: u8) -> u16
     ensures { result ≡ number (a ∷ b ∷ []) }
 {
-    (a as u16) * 256 + (b as u16)
+    u16::from_be_bytes([a, b])
 }
 
 // The number that four bytes stand for.
+#[tactic(auto, unfolding(crate::specs::Bytes::number))]
 pub fn be32(a: u8, b: u8, c: u8, d: u8) -> u32
     ensures { result ≡ number (a ∷ b ∷ c ∷ d ∷ []) }
 {
-    (be16(a, b) as u32) * 65536 + (be16(c, d) as u32)
+    u32::from_be_bytes([a, b, c, d])
 }
 
-pub fn read_u16(area: Area, s: &[u8], place: usize) -> Number16
-    ensures { said_number16 result ≡ within area (read_field 2 place s.now) }
+// As many bytes as a field has, from a place on.
+fn read_array<const N: usize>(area: Area, s: &[u8], place: usize) -> Result<[u8; N], TpmError>
+    requires { 0 < N }
+    ensures { said result ≡ within area (read_bytes N place s.now) }
 {
     let left = left(s.len(), place);
-    if left < 2 {
-        return Number16::Refused(TpmError::UnexpectedEnd {
+    if left < N {
+        return Err(TpmError::UnexpectedEnd {
             area,
             offset: place,
-            needed: 2,
+            needed: N,
             available: left,
         });
     }
-    Number16::Is(be16(s[place], s[place + 1]))
+    Ok(*s[place..].first_chunk().unwrap())
 }
 
-pub fn read_u32(area: Area, s: &[u8], place: usize) -> Number32
-    ensures { said_number32 result ≡ within area (read_field 4 place s.now) }
+pub fn read_u16(area: Area, s: &[u8], place: usize) -> Result<u16, TpmError>
+    ensures { said result ≡ within area (read_field 2 place s.now) }
 {
-    let left = left(s.len(), place);
-    if left < 4 {
-        return Number32::Refused(TpmError::UnexpectedEnd {
-            area,
-            offset: place,
-            needed: 4,
-            available: left,
-        });
-    }
-    Number32::Is(be32(s[place], s[place + 1], s[place + 2], s[place + 3]))
+    Ok(u16::from_be_bytes(read_array(area, s, place)?))
 }
 
-pub fn write_u16(s: &mut [u8], place: usize, n: u16) -> Outcome
-    ensures answer { said_outcome result ≡ done (write_field 2 place n s.old) }
+pub fn read_u32(area: Area, s: &[u8], place: usize) -> Result<u32, TpmError>
+    ensures { said result ≡ within area (read_field 4 place s.now) }
+{
+    Ok(u32::from_be_bytes(read_array(area, s, place)?))
+}
+
+pub fn write_u16(s: &mut [u8], place: usize, n: u16) -> Result<(), TpmError>
+    ensures answer { said result ≡ done (write_field 2 place n s.old) }
     ensures bytes { s.new ≡ after s.old (write_field 2 place n s.old) }
 {
-    let left = left(s.len(), place);
-    if left < 2 {
-        return Outcome::Refused(TpmError::BufferOverflow {
-            area: Area::None,
-            offset: place,
-            needed: 2,
-            available: left,
-        });
-    }
-    s[place] = (n / 256) as u8;
-    s[place + 1] = (n % 256) as u8;
-    Outcome::Done
+    write_bytes(s, place, &n.to_be_bytes())
 }
 
-pub fn write_u32(s: &mut [u8], place: usize, n: u32) -> Outcome
-    ensures answer { said_outcome result ≡ done (write_field 4 place n s.old) }
+pub fn write_u32(s: &mut [u8], place: usize, n: u32) -> Result<(), TpmError>
+    ensures answer { said result ≡ done (write_field 4 place n s.old) }
     ensures bytes { s.new ≡ after s.old (write_field 4 place n s.old) }
 {
-    let left = left(s.len(), place);
-    if left < 4 {
-        return Outcome::Refused(TpmError::BufferOverflow {
-            area: Area::None,
-            offset: place,
-            needed: 4,
-            available: left,
-        });
-    }
-    s[place] = (n / 16777216) as u8;
-    s[place + 1] = (n / 65536 % 256) as u8;
-    s[place + 2] = (n / 256 % 256) as u8;
-    s[place + 3] = (n % 256) as u8;
-    Outcome::Done
+    write_bytes(s, place, &n.to_be_bytes())
 }
 
-// The bytes that are copied at once.
-const BLOCK: usize = 4096;
-
-// Copies all of t to a place of s, byte by byte.
-fn lay(s: &mut [u8], place: usize, t: &[u8])
-    requires { length t.now ≤ length s.old - place }
-    ensures { s.new ≡ laid place t.now s.old }
-{
-    let mut i = 0;
-    while i < t.len() {
-        s[place + i] = t[i];
-        i += 1;
-    }
-}
-
-// Copies all of t to a place of s: every copy of bytes here is this one. Through an array of its own the compiler sees that
-// nothing overlaps, and makes one move of the two loops.
-pub fn write_bytes(s: &mut [u8], place: usize, t: &[u8]) -> Outcome
-    ensures answer { said_outcome result ≡ done (write_bytes place t.now s.old) }
+// Copies all of t to a place of s: every copy of bytes here is this one.
+pub fn write_bytes(s: &mut [u8], place: usize, t: &[u8]) -> Result<(), TpmError>
+    ensures answer { said result ≡ done (write_bytes place t.now s.old) }
     ensures bytes { s.new ≡ after s.old (write_bytes place t.now s.old) }
 {
     let left = left(s.len(), place);
-    let len = t.len();
-    if left < len {
-        return Outcome::Refused(TpmError::BufferOverflow {
+    let needed = t.len();
+    if left < needed {
+        return Err(TpmError::BufferOverflow {
             area: Area::None,
             offset: place,
-            needed: len,
+            needed,
             available: left,
         });
     }
-    if BLOCK < len {
-        lay(s, place, t);
-        return Outcome::Done;
+    if 0 < needed {
+        s[place..place + needed].copy_from_slice(t);
     }
-    let mut block = [0; 4096];
-    lay(&mut block, 0, t);
-    lay(s, place, &block[..len]);
-    Outcome::Done
+    Ok(())
 }

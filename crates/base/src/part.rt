@@ -4,7 +4,7 @@ ghost use Rattle.std.specs.Borrow.{sem};
 ghost use Rattle.base.specs.Answer.{said_range};
 ghost use Rattle.base.specs.Parts.{IsPart, IsPartMut, LendsPart, behind, placed};
 
-use crate::answer::Range;
+use crate::error::TpmError;
 
 // A part by its start and its end.
 #[repr(C)]
@@ -22,32 +22,33 @@ fn fits(from: usize, to: usize, len: usize) -> bool
 }
 
 // Where the part of a range stands in so many bytes: at their start, and empty, where there is no such part.
-fn placed(range: Range, len: usize) -> Span
+fn placed(range: Result<Span, TpmError>, len: usize) -> Span
     ensures { result ≡ placed (said_range range) len }
 {
     match range {
-        Range::Is { from, to } => {
+        Ok(Span { from, to }) => {
             if fits(from, to, len) {
                 Span { from, to }
             } else {
                 Span { from: 0, to: 0 }
             }
         }
-        Range::Refused(_) => Span { from: 0, to: 0 },
+        Err(_) => Span { from: 0, to: 0 },
     }
 }
 
 // What stands behind the part of a range in so many bytes, as a range.
-pub fn behind(range: Range, len: usize) -> Range
+pub fn behind(range: Result<Span, TpmError>, len: usize) -> Result<Span, TpmError>
     ensures { said_range result ≡ behind (said_range range) len }
 {
-    match range {
-        Range::Is { from: _, to } => Range::Is { from: to, to: len },
-        Range::Refused(e) => Range::Refused(e),
-    }
+    let part = range?;
+    Ok(Span {
+        from: part.to,
+        to: len,
+    })
 }
 
-pub fn part(s: &[u8], range: Range) -> &[u8]
+pub fn part(s: &[u8], range: Result<Span, TpmError>) -> &[u8]
     ensures { IsPart (said_range range) s.entry result }
 {
     let at = placed(range, s.len());
@@ -57,7 +58,7 @@ pub fn part(s: &[u8], range: Range) -> &[u8]
 }
 
 // The same as a part that can be written to. Once its last bytes are known, so are those of the slice.
-pub fn part_mut(s: &mut [u8], range: Range) -> &mut [u8]
+pub fn part_mut(s: &mut [u8], range: Result<Span, TpmError>) -> &mut [u8]
     ensures* writes_back { sem 𝓛 (LendsPart (said_range range) s.entry result) }
     ensures part { IsPartMut (said_range range) s.entry result }
 {

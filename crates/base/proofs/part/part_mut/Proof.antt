@@ -38,7 +38,6 @@ use denote.FollowSlice.{heres_id}
 use denote.Slice.{slice_val, MutSlice, mut_slice_vals, mut_slice_Tells, Room, mut_slice_at}
 use denote.Signature.{plain, mut_slice_of}
 use denote.Steps.{owned, peeks, heard, nothing, only}
-use denote.Enum.Laws as EL
 use denote.Struct.Laws as LL
 use denote.Exit.{yes, no}
 use denote.Triple.Statement.{Contract, Triple}
@@ -50,15 +49,14 @@ use denote.Triple.Table.{framed}
 use denote.Triple.Walked.{says, Stays, stay_dropped, on_exit, walk_of, Goes-spent_slice, Goes-dropped, ends_at}
 use borrow.Table.Elements.{at, at_byte}
 use borrow.Rule.Slice.PartMut.{put_same, Post-is, mid_len}
-use Rattle.base.specs.declared.answer.Range.{Range}
 use Rattle.base.specs.declared.part.Span.{Span}
 use Rattle.base.specs.Answer.{said_range}
 use Rattle.base.specs.Parts.{placed, held_at, IsAt, LendsAt}
 use Rattle.std.proofs.raw_atomic.Walks.{proved}
 use Rattle.base.proofs.Lending as lending
 use Rattle.base.proofs.Parts.{placed_within}
-use Rattle.base.specs.contracts.answer.Range as R
-use Rattle.base.proofs.answer.Range.TheLaws as R'
+use Rattle.base.proofs.Ranges.{Range}
+use Rattle.base.proofs.Ranges as R
 use Rattle.base.specs.contracts.part.Span as S
 use Rattle.base.proofs.part.Span.TheLaws as S'
 use Rattle.base.specs.contracts.part.placed as placed-fn
@@ -111,7 +109,7 @@ module _ {M : Type 1} {𝓤 : Ura M} (𝓛 : Logic 𝓤) (mm : Memory → SProp 
   v = slice_val (b, o) (length ys)
 
   abbrev u : Val
-  u = R'.lowered range
+  u = (R.lowers).lowered range
 
   abbrev w : Val
   w = slice_val (b, p.from + o) (p.to - p.from)
@@ -189,7 +187,7 @@ module _ {M : Type 1} {𝓤 : Ura M} (𝓛 : Logic 𝓤) (mm : Memory → SProp 
   said s = ex_e 𝓤 _ (λ ws. snd∗ 𝓤 (sem 𝓛 (lasts placed-fn.ended tt (range, (length ys, tt)) ws)) (fact 𝓤 (s ≡ p)))
 
   module _ (C : Calls 𝓤 H) (Λ : Loops 𝓤 H) (fm : FmC 𝓤 H 𝓛.laws C) (known : Triple 𝓤 (C #placed) (Placed 𝓛 mm run)) where
-    walk : Holds (has_ty R'.mir u) × WT u → ent 𝓤 (on_entry 𝓛 f.signature (κ, tt) (q, tt) arg vals) (WpFn 𝓤 H C Λ code.function (v ∷ u ∷ []) Post)
+    walk : Holds (has_ty (R.lowers).mir u) × WT u → ent 𝓤 (on_entry 𝓛 f.signature (κ, tt) (q, tt) arg vals) (WpFn 𝓤 H C Λ code.function (v ∷ u ∷ []) Post)
     walk typed =
         qed 𝓛 ((‵ (flft κ q) ⊛ ‵ ftrue) ∷ ‵ (owns (MutSlice (named 0) κ u8 ∷ R.the_row ∷ []) arg vals) ∷ []) ∵
         split ! $ move ! (2 ∷ []) $ fsplit ! $ fsplit ! $ drop ! $ fsplit ! $ move ! (2 ∷ []) $ fsplit ! $ keep ! (0 ∷ 2 ∷ 3 ∷ 4 ∷ []) $
@@ -230,8 +228,8 @@ part_mut_spec 𝓤 𝓛 𝓜 𝓡 wired =
     proved 𝓛 f.ended stayed (f.clauses 𝓛 𝓜.mem 𝓡.returns) 𝓜 𝓡
     (Goes-spent_slice 𝓛 1 (0 ∷ []) tt (plain (λ _. u8)), (Goes-dropped 𝓛 1 (plain (λ _. R.the_row)) yes (λ κs x f. refl), tt))
     #part_mut code.function (code.unfolded 𝓤 𝓛.H 𝓜 𝓡 wired)
-    (λ κs. (mut_slice_vals, ((λ d. R'.lowered d ∷ []), tt))) (λ κs. (mut_slice_Tells (named 0) κs.0 u8, ((R'.lowers).val_is, tt)))
+    (λ κs. (mut_slice_vals, ((λ d. (R.lowers).lowered d ∷ []), tt))) (λ κs. (mut_slice_Tells (named 0) κs.0 u8, ((R.lowers).val_is, tt)))
     (λ κs qs bounds a g are. via 𝓤 _ (fst∗ 𝓤 _ (emp 𝓤))
     (walk 𝓛 𝓜.mem 𝓡.returns κs.0 qs.0 a.0.ref_ptr.0 a.0.ref_ptr.1 a.0.ghost_name a.0.now are.0.0.1 a.1.0
     (tables 𝓤 𝓛.H 𝓜 𝓡 𝓡.env).C (tables 𝓤 𝓛.H 𝓜 𝓡 𝓡.env).Λ (framed 𝓤 𝓛.H 𝓜 (tables 𝓤 𝓛.H 𝓜 𝓡 𝓡.env))
-    (met 𝓤 𝓛 𝓜 𝓡 (code.calls-base::part::placed 𝓡.env wired)) ((EL.lawful R.the_type R'.the_laws 𝓛 tt).typed a.1.0 _ are.1.0).0))
+    (met 𝓤 𝓛 𝓜 𝓡 (code.calls-base::part::placed 𝓡.env wired)) (((R.the_laws).lawful 𝓛).typed a.1.0 _ are.1.0).0))
