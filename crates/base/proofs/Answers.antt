@@ -2,14 +2,14 @@
 -- Assumes nothing.
 use mathlib.Core.Path.{◌≡◌, refl, sym, ◌∙◌, ap}
 use Prim.Native.Nat.{ℕ}
-use Rattle.std.specs.Prelude.{Result, Ok, Err}
+use Rattle.std.specs.Prelude.{Result, Ok, Err, is_ok}
 use Rattle.base.specs.declared.code.TpmSt.{TpmSt}
 use Rattle.base.specs.declared.code.TpmCc.{TpmCc}
 use Rattle.base.specs.declared.code.TpmRc.{TpmRc}
 use Rattle.base.specs.declared.error.TpmError.{TpmError}
 use Rattle.base.specs.declared.error.WriteError.{WriteError}
 use Rattle.base.specs.declared.part.Span.{Span}
-use Rattle.base.specs.Said.{Said, Why, gives, refuses}
+use Rattle.base.specs.Said.{Said, Why, gives, refuses, given}
 use Rattle.base.specs.Error.{numbered, writer_numbered}
 use Rattle.base.specs.Answer.{said_by, said, said_tag, said_command_code, said_response_code, said_range, said_total}
 use Rattle.base.proofs.Eight.{writer_named, writer_named_numbered}
@@ -54,3 +54,8 @@ said_range_injective = said_by_injective (λ p. record { from = p.from; to = p.t
 
 pub said_total_injective : (a b : Result ℕ WriteError) → said_total a ≡ said_total b → a ≡ b
 said_total_injective = said_by_injective (λ n. n) writer_numbered (λ n. n) writer_named (λ x. refl) writer_named_numbered
+
+-- an answer is a value exactly when what it says is given
+pub is_given : {A B E : Type 0} (value : A → B) (why : E → Why) (a : Result A E) → is_ok a ≡ given (said_by value why a)
+is_given value why (Ok x) = refl
+is_given value why (Err e) = refl

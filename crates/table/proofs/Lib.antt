@@ -1,4 +1,3 @@
-pub mod Answers
 pub mod Only
 pub mod Revisions
 pub mod Rows

@@ -2,7 +2,7 @@
 -- Assumes nothing.
 use mathlib.Core.Path.{refl, sym, ◌∙◌}
 use Rattle.base.specs.Single.{Single}
-use Rattle.table.proofs.Answers.{said_found_injective}
+use Rattle.base.proofs.Answers.{said_injective}
 use Rattle.table.proofs.dispatch.find.Kinds as find-kinds
 use Rattle.table.proofs.dispatch.find.Reads as find-reads
 use Rattle.table.proofs.dispatch.cc_known.Kinds as cc-known-kinds
@@ -11,7 +11,7 @@ use Rattle.table.proofs.tag.tag_known.Kinds as tag-known-kinds
 use Rattle.table.proofs.tag.tag_known.Reads as tag-known-reads
 
 find : Single 0 find-kinds.ps find-kinds.r find-reads.Post
-find κs a x y v w p q = (said_found_injective x y (p ∙ sym q), refl)
+find κs a x y v w p q = (said_injective x y (p ∙ sym q), refl)
 
 cc_known : Single 0 cc-known-kinds.ps cc-known-kinds.r cc-known-reads.Post
 cc_known κs a x y v w p q = (p ∙ sym q, refl)

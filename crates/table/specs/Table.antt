@@ -3,11 +3,8 @@
 -- Assumes nothing: these are definitions.
 use Rattle.std.specs.Prelude.{ℕ, ◌*◌, ◌≤◌, ◌<◌, Bool, true, false, not, ◌&&◌, cond, List, [], ◌∷◌, ◌≡◌, eqb, leb, ltb, length, get_or, take, drop}
 use Rattle.base.specs.Members.{is_in}
-use Rattle.base.specs.Error.{numbered}
 use Rattle.base.specs.Said.{no_area, Said, gives, refuses}
 use Rattle.table.specs.declared.row.Row.{Row}
-use Rattle.table.specs.declared.row.Found.{Found}
-use Rattle.table.specs.declared.row.Found.TheVariants as found
 
 abbrev pub row : ℕ → ℕ → ℕ → Row
 row code handles responses = record { code = code; handles = handles; responses = responses }
@@ -45,10 +42,6 @@ pub record IsTable (rows : List Row) (known : List ℕ) : Type 0 where
   pub rises : rising rows ≡ true
   pub has_few : few rows ≡ true
   pub holds : (code : ℕ) → is_in code (codes rows) ≡ true → is_in code known ≡ true
-
-abbrev pub said_found : Found → Said Row
-said_found (found.Is r) = gives r
-said_found (found.Refused e) = refuses (numbered e)
 
 -- ---- two tables (document 02, W10)
 

@@ -1,14 +1,15 @@
 // The search of a table of commands, and the codes that are known where it judges.
 ghost use Rattle.std.specs.Prelude.{◌≡◌, false, ◌≤◌, ◌<◌};
+ghost use Rattle.base.specs.Answer.{said};
 ghost use Rattle.base.specs.Members.{is_in};
 ghost use Rattle.table.specs.Dispatch.{codes_of, is138, is_crate, table_of};
-ghost use Rattle.table.specs.Table.{Begins, row_for, said_found};
+ghost use Rattle.table.specs.Table.{Begins, row_for};
 
 use crate::parts;
 use crate::revision::Revision;
-use crate::row::Found;
+use crate::row::Row;
 use base::code::TpmCc;
-use base::error::Area;
+use base::error::{Area, TpmError};
 
 // Where a search begins: the row of its code stands from lo to before hi, if anywhere, and is looked for at a place between them
 // first. That is as far from the table's first row as the code is from the first code, less the codes on the way that are left out.
@@ -167,8 +168,8 @@ fn begin(revision: Revision, code: u32) -> Start
 
 // The row of a code. Below the code the next look is one row on, which settles a code that has none; above it the search halves. Where
 // the first look is changes no answer.
-pub fn find(revision: Revision, cc: TpmCc) -> Found
-    ensures { said_found result ≡ row_for (table_of revision) cc.0 }
+pub fn find(revision: Revision, cc: TpmCc) -> Result<Row, TpmError>
+    ensures { said result ≡ row_for (table_of revision) cc.0 }
 {
     let at = begin(revision, cc.0);
     let mut lo = at.lo;
@@ -177,7 +178,7 @@ pub fn find(revision: Revision, cc: TpmCc) -> Found
     while lo < hi {
         let row = parts::row_at(revision, place);
         if row.code == cc.0 {
-            return Found::Is(row);
+            return Ok(row);
         }
         if row.code < cc.0 {
             lo = place + 1;
@@ -187,15 +188,12 @@ pub fn find(revision: Revision, cc: TpmCc) -> Found
             place = lo + (hi - lo) / 2;
         }
     }
-    Found::Refused(cc.refused(Area::None, 0))
+    Err(cc.refused(Area::None, 0))
 }
 
 // Whether a code is known: TpmCc has those of the crate's table, and a table of the Library judges by its own.
 pub fn cc_known(revision: Revision, cc: TpmCc) -> bool
     ensures { result ≡ is_in cc.0 (codes_of revision) }
 {
-    match find(revision, cc) {
-        Found::Is(_) => true,
-        Found::Refused(_) => false,
-    }
+    find(revision, cc).is_ok()
 }
