@@ -2,7 +2,8 @@
 -- Assumes nothing.
 use mathlib.Core.Path.{◌≡◌, refl, sym, ◌∙◌, ap}
 use Prim.Native.Nat.{ℕ}
-use Rattle.std.specs.Prelude.{Result, Ok, Err, is_ok}
+use Rattle.std.specs.Prelude.{Result, Ok, Err, is_ok, IsErrAnd}
+use Rattle.std.proofs.lemmas.Result.{err_from_is_err_and}
 use Rattle.base.specs.declared.code.TpmSt.{TpmSt}
 use Rattle.base.specs.declared.code.TpmCc.{TpmCc}
 use Rattle.base.specs.declared.code.TpmRc.{TpmRc}
@@ -54,6 +55,12 @@ said_range_injective = said_by_injective (λ p. record { from = p.from; to = p.t
 
 pub said_total_injective : (a b : Result ℕ WriteError) → said_total a ≡ said_total b → a ≡ b
 said_total_injective = said_by_injective (λ n. n) writer_numbered (λ n. n) writer_named (λ x. refl) writer_named_numbered
+
+-- at the exit of a `?` the refusal is the step's
+pub passed_on : {A B E : Type 0} (value : A → B) (why : E → Why) (r : Result A E) {e : E} → IsErrAnd r (λ y. y ≡ e) → said_by value why r ≡ refuses (why e)
+passed_on value why r h =
+    let p = err_from_is_err_and r h in
+    ap (said_by value why) p.1 ∙ ap (λ y. refuses (why y)) p.2
 
 -- an answer is a value exactly when what it says is given
 pub is_given : {A B E : Type 0} (value : A → B) (why : E → Why) (a : Result A E) → is_ok a ≡ given (said_by value why a)

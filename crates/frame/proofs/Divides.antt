@@ -5,12 +5,12 @@ use mathlib.Core.Path.{◌≡◌, refl, sym, ◌∙◌, ap, subst}
 use mathlib.Core.List.{List}
 use mathlib.Core.Logic.{◌↔◌}
 use Prim.Native.Nat.{ℕ}
-use Rattle.base.specs.declared.answer.Outcome.{Outcome}
-use Rattle.base.specs.declared.answer.Outcome.TheVariants as outcome
-use Rattle.base.specs.Answer.{said_outcome}
+use Rattle.std.specs.Prelude.{Result, Ok}
+use Rattle.base.specs.declared.error.TpmError.{TpmError}
+use Rattle.base.specs.Answer.{said}
 use Rattle.base.specs.Bytes.{AreBytes}
 use Rattle.base.specs.Said.{Said, gives, refuses, then, done}
-use Rattle.base.proofs.Answers.{said_outcome_injective}
+use Rattle.base.proofs.Answers.{said_injective}
 use Rattle.base.proofs.Checks.{gives_injective, then_gives, goes_on, done_gives}
 
 -- what a reading gives of some bytes tells parts, and parts have a layout
@@ -97,14 +97,14 @@ module _ {B F : Type 0} {read : List ℕ → Said B} {parts : List ℕ → B →
   }
 
   -- a call that only checks is done exactly when there are such parts
-  pub done_exactly : (x : Outcome) → said_outcome x ≡ done (read s) → (x ≡ outcome.Done) ↔ ((f : F) × Formed f × (layout f ≡ s))
+  pub done_exactly : (x : Result (Unit {0}) TpmError) → said x ≡ done (read s) → (x ≡ Ok tt) ↔ ((f : F) × Formed f × (layout f ≡ s))
   done_exactly x e = (
     (λ is.
-        let given = done_gives (read s) (sym (ap said_outcome is) ∙ e) in
+        let given = done_gives (read s) (sym (ap said is) ∙ e) in
         (d.exactly s p).0 (given.0, sym given.1)),
     (λ parted.
         let given = (d.exactly s p).1 parted in
-        said_outcome_injective x outcome.Done (e ∙ ap done given.1)),
+        said_injective x (Ok tt) (e ∙ ap done given.1)),
   )
 
 -- a value of what is given does not change whether something is

@@ -9,18 +9,17 @@ use borrow.Fn.Kinds.{ParamKind, ResultKind, Out, Dens, res_t, ended_of}
 use contract.Lifetimes.{Lfts}
 use lib.ListN.{length}
 use denote.Triple.Clauses.{Lasts, at_exit}
-use Rattle.base.specs.declared.answer.Outcome.TheVariants as outcome
+use Rattle.std.specs.Prelude.{Ok}
 use Rattle.base.specs.Bytes.{AreBytes}
 use Rattle.base.specs.Parts.{held_at}
+use Rattle.base.specs.Answer.{said}
 use Rattle.base.specs.Said.{gives}
 use Rattle.frame.specs.declared.rules.Reading.TheVariants as reading
 use Rattle.frame.specs.declared.rules.Rules.{Rules}
 use Rattle.table.proofs.Table.{is_table}
 use Rattle.frame.specs.declared.command.Command.{Command}
-use Rattle.frame.specs.declared.command.CommandRead.TheVariants as command
 use Rattle.frame.specs.declared.response.Response.{Response}
-use Rattle.frame.specs.declared.response.ResponseRead.TheVariants as response
-use Rattle.frame.specs.Answer.{command_of, response_of, frame_of, command_by_value, response_by_value, said_command, said_response}
+use Rattle.frame.specs.Answer.{command_of, response_of, frame_of, command_by_value, response_by_value}
 use Rattle.frame.specs.Command.{read_command, handles_range, auth_range, parameters_range}
 use Rattle.frame.specs.Layout.{Frame, CommandParts, ResponseParts, layout_entries, layout_command, layout_response}
 use Rattle.frame.specs.Parts.{ranged, Kept, EachField, entries_of, command_parts, response_parts}
@@ -29,7 +28,7 @@ use Rattle.frame.specs.Rules.{book_of}
 use Rattle.frame.proofs.CommandLaws as over
 use Rattle.frame.proofs.ResponseLaws as over-one
 use Rattle.frame.proofs.Divides.{Divides, Tells, tells, done_exactly, done_valued}
-use Rattle.frame.proofs.Single.{said_command_injective, said_response_injective}
+use Rattle.base.proofs.Answers.{said_injective}
 use Rattle.frame.proofs.command.validate.Kinds as command-validate-kinds
 use Rattle.frame.proofs.command.validate.Reads as command-validate-reads
 use Rattle.frame.proofs.command.parts.Kinds as command-parts-kinds
@@ -76,14 +75,14 @@ Promised n ps r Post Claim =
 
 -- `validate` is done exactly when the bytes are the layout of well-formed parts
 pub command_validate : Promised 1 command-validate-kinds.ps command-validate-kinds.r command-validate-reads.Post
-    (λ κs a x later. AreBytes a.1.0.now → (x ≡ outcome.Done) ↔ ((f : Frame) × CommandParts (book_of a.0) f × (layout_command f ≡ a.1.0.now)))
+    (λ κs a x later. AreBytes a.1.0.now → (x ≡ Ok tt) ↔ ((f : Frame) × CommandParts (book_of a.0) f × (layout_command f ≡ a.1.0.now)))
 command_validate κs a x v met p =
     let s : List ℕ = a.1.0.now in
     done_exactly (command_divides a.0) s p x (met ∙ done_valued (frame_of command_of s) (read_command (book_of a.0) s))
 
 pub response_validate : Promised 1 response-validate-kinds.ps response-validate-kinds.r response-validate-reads.Post
     (λ κs a x later. AreBytes a.1.1.0.now
-    → (x ≡ outcome.Done) ↔ ((f : Frame) × ResponseParts (book_of a.0) a.1.0.0 f × (layout_response f ≡ a.1.1.0.now)))
+    → (x ≡ Ok tt) ↔ ((f : Frame) × ResponseParts (book_of a.0) a.1.0.0 f × (layout_response f ≡ a.1.1.0.now)))
 response_validate κs a x v met p =
     let s : List ℕ = a.1.1.0.now in
     done_exactly (response_divides a.0 a.1.0.0) s p x (met ∙ done_valued (frame_of response_of s) (read_response (book_of a.0) a.1.0.0 s))
@@ -91,35 +90,35 @@ response_validate κs a x v met p =
 -- `parts` gives what tells these parts, and then the authorization area is the layout of the entries
 pub command_parts_lem : Promised 1 command-parts-kinds.ps command-parts-kinds.r command-parts-reads.Post
     (λ κs a x later. AreBytes a.1.0.now
-    → Tells command.Is command_parts layout_command (CommandParts (book_of a.0)) a.1.0.now x
-    × ((c : Command) → x ≡ command.Is c → held_at c.auth a.1.0.now ≡ layout_entries 4 (command_parts a.1.0.now c).entries))
+    → Tells Ok command_parts layout_command (CommandParts (book_of a.0)) a.1.0.now x
+    × ((c : Command) → x ≡ Ok c → held_at c.auth a.1.0.now ≡ layout_entries 4 (command_parts a.1.0.now c).entries))
 command_parts_lem κs a x v met p =
     let s : List ℕ = a.1.0.now in (
-      tells (command_divides a.0) s p said_command command.Is (λ c. refl) said_command_injective x met,
-      (λ c is. command_auth a.0 s p c (sym met ∙ ap said_command is)),
+      tells (command_divides a.0) s p said Ok (λ c. refl) said_injective x met,
+      (λ c is. command_auth a.0 s p c (sym met ∙ ap said is)),
     )
 
 pub response_parts_lem : Promised 1 response-parts-kinds.ps response-parts-kinds.r response-parts-reads.Post
     (λ κs a x later. AreBytes a.1.1.0.now
-    → Tells response.Is response_parts layout_response (ResponseParts (book_of a.0) a.1.0.0) a.1.1.0.now x
-    × ((r : Response) → x ≡ response.Is r → held_at r.auth a.1.1.0.now ≡ layout_entries 0 (response_parts a.1.1.0.now r).entries))
+    → Tells Ok response_parts layout_response (ResponseParts (book_of a.0) a.1.0.0) a.1.1.0.now x
+    × ((r : Response) → x ≡ Ok r → held_at r.auth a.1.1.0.now ≡ layout_entries 0 (response_parts a.1.1.0.now r).entries))
 response_parts_lem κs a x v met p =
     let s : List ℕ = a.1.1.0.now in (
-      tells (response_divides a.0 a.1.0.0) s p said_response response.Is (λ r. refl) said_response_injective x met,
-      (λ r is. response_auth a.0 a.1.0.0 s p r (sym met ∙ ap said_response is)),
+      tells (response_divides a.0 a.1.0.0) s p said Ok (λ r. refl) said_injective x met,
+      (λ r is. response_auth a.0 a.1.0.0 s p r (sym met ∙ ap said is)),
     )
 
 -- ---- for whoever copies them: in the standard reading every nonce and every HMAC that `parts` gives has at most 64 bytes, and lies within the
 -- frame
 
 pub command_parts_fields : Promised 1 command-parts-kinds.ps command-parts-kinds.r command-parts-reads.Post
-    (λ κs a x later. a.0.reading ≡ reading.Standard → (c : Command) → x ≡ command.Is c
+    (λ κs a x later. a.0.reading ≡ reading.Standard → (c : Command) → x ≡ Ok c
     → EachField (Kept 64 (length a.1.0.now)) (entries_of c.entries))
 command_parts_fields κs a x v met by c is =
-    rw by at (over.command_fields (book_of a.0) a.1.0.now c (sym met ∙ ap said_command is))
+    rw by at (over.command_fields (book_of a.0) a.1.0.now c (sym met ∙ ap said is))
 
 pub response_parts_fields : Promised 1 response-parts-kinds.ps response-parts-kinds.r response-parts-reads.Post
-    (λ κs a x later. a.0.reading ≡ reading.Standard → (r : Response) → x ≡ response.Is r
+    (λ κs a x later. a.0.reading ≡ reading.Standard → (r : Response) → x ≡ Ok r
     → EachField (Kept 64 (length a.1.1.0.now)) (entries_of r.entries))
 response_parts_fields κs a x v met by r is =
-    rw by at (over-one.response_fields (book_of a.0) a.1.0.0 a.1.1.0.now r (sym met ∙ ap said_response is))
+    rw by at (over-one.response_fields (book_of a.0) a.1.0.0 a.1.1.0.now r (sym met ∙ ap said is))

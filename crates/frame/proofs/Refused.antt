@@ -4,22 +4,13 @@
 use mathlib.Core.Path.{◌≡◌, refl, sym, ◌∙◌, ap}
 use mathlib.Core.List.{List, [], ◌∷◌}
 use Prim.Native.Nat.{ℕ}
+use Rattle.std.specs.Prelude.{Err}
 use Rattle.base.specs.declared.error.TpmError.{TpmError}
-use Rattle.base.specs.declared.answer.CommandCode.TheVariants as command_code
-use Rattle.base.specs.declared.answer.Number32.TheVariants as number32
-use Rattle.base.specs.declared.answer.Outcome.TheVariants as outcome
-use Rattle.base.specs.declared.answer.Range.TheVariants as range
-use Rattle.base.specs.declared.answer.ResponseCode.TheVariants as response-code
-use Rattle.base.specs.declared.answer.Tag.TheVariants as tag
-use Rattle.base.specs.Answer.{said_outcome, said_number32, said_tag, said_command_code, said_response_code, said_range}
+use Rattle.base.specs.Answer.{said, said_tag, said_command_code, said_response_code, said_range}
 use Rattle.base.specs.Error.{numbered}
 use Rattle.base.specs.Said.{Why, Said, refuses, Only}
 use Rattle.base.proofs.Only.{by_done, by_step}
-use Rattle.frame.specs.declared.command.CommandRead.TheVariants as command
-use Rattle.frame.specs.declared.command.CommandSessions.TheVariants as command-signed
-use Rattle.frame.specs.declared.response.ResponseRead.TheVariants as response
-use Rattle.frame.specs.declared.response.ResponseSessions.TheVariants as response-signed
-use Rattle.frame.specs.Answer.{said_command, said_response, said_command_sessions, said_response_sessions}
+use Rattle.frame.specs.Answer.{said_command_sessions, said_response_sessions}
 use Rattle.frame.specs.Command.{handles_range, auth_range, parameters_range}
 use Rattle.frame.specs.Rules.{Rulebook, book_of}
 use Rattle.frame.specs.Where.{OfHeader, OfCommand, OfResponse, AtStart}
@@ -90,89 +81,89 @@ module _ (book : Rulebook) (s : List ℕ) where
 -- ---- a field of the header
 
 pub header_tag : Promised 1 header-tag-kinds.ps header-tag-kinds.r header-tag-reads.Post
-    (λ κs a x later. (e : TpmError) → x ≡ tag.Refused e → OfHeader (1 ∷ 3 ∷ []) a.0.now (numbered e))
-header_tag κs a x v met = told said_tag tag.Refused (λ e. refl) (only.only_tag a.0.now) met
+    (λ κs a x later. (e : TpmError) → x ≡ Err e → OfHeader (1 ∷ 3 ∷ []) a.0.now (numbered e))
+header_tag κs a x v met = told said_tag Err (λ e. refl) (only.only_tag a.0.now) met
 
 pub header_size : Promised 1 header-size-kinds.ps header-size-kinds.r header-size-reads.Post
-    (λ κs a x later. (e : TpmError) → x ≡ number32.Refused e → OfHeader (1 ∷ []) a.0.now (numbered e))
-header_size κs a x v met = told said_number32 number32.Refused (λ e. refl) (only.only_size a.0.now) met
+    (λ κs a x later. (e : TpmError) → x ≡ Err e → OfHeader (1 ∷ []) a.0.now (numbered e))
+header_size κs a x v met = told said Err (λ e. refl) (only.only_size a.0.now) met
 
 pub header_set_tag : Promised 1 header-set-tag-kinds.ps header-set-tag-kinds.r header-set-tag-reads.Post
-    (λ κs a x later. (e : TpmError) → x ≡ outcome.Refused e → OfHeader (1 ∷ 3 ∷ []) a.0.now (numbered e))
-header_set_tag κs a x v met = told said_outcome outcome.Refused (λ e. refl) (by_done (only.only_set_tag a.0.now a.1.0.0)) met.0
+    (λ κs a x later. (e : TpmError) → x ≡ Err e → OfHeader (1 ∷ 3 ∷ []) a.0.now (numbered e))
+header_set_tag κs a x v met = told said Err (λ e. refl) (by_done (only.only_set_tag a.0.now a.1.0.0)) met.0
 
 -- ---- commands
 
 pub command_cc : Promised 1 command-cc-kinds.ps command-cc-kinds.r command-cc-reads.Post
-    (λ κs a x later. (e : TpmError) → x ≡ command_code.Refused e → OfHeader (1 ∷ 4 ∷ []) a.1.0.now (numbered e))
-command_cc κs a x v met = told said_command_code command_code.Refused (λ e. refl) (only.only_cc a.1.0.now (book_of a.0)) met
+    (λ κs a x later. (e : TpmError) → x ≡ Err e → OfHeader (1 ∷ 4 ∷ []) a.1.0.now (numbered e))
+command_cc κs a x v met = told said_command_code Err (λ e. refl) (only.only_cc a.1.0.now (book_of a.0)) met
 
 pub command_set_cc : Promised 1 command-set-cc-kinds.ps command-set-cc-kinds.r command-set-cc-reads.Post
-    (λ κs a x later. (e : TpmError) → x ≡ outcome.Refused e → OfHeader (1 ∷ 4 ∷ []) a.1.0.now (numbered e))
-command_set_cc κs a x v met = told said_outcome outcome.Refused (λ e. refl) (by_done (only.only_set_cc a.1.0.now (book_of a.0) a.1.1.0.0)) met.0
+    (λ κs a x later. (e : TpmError) → x ≡ Err e → OfHeader (1 ∷ 4 ∷ []) a.1.0.now (numbered e))
+command_set_cc κs a x v met = told said Err (λ e. refl) (by_done (only.only_set_cc a.1.0.now (book_of a.0) a.1.1.0.0)) met.0
 
 pub command_handles_range : Promised 1 command-handles-range-kinds.ps command-handles-range-kinds.r command-handles-range-reads.Post
-    (λ κs a x later. (e : TpmError) → x ≡ range.Refused e → OfCommand (book_of a.0) a.1.0.now (numbered e))
-command_handles_range κs a x v met = told said_range range.Refused (λ e. refl) (handles (book_of a.0) a.1.0.now) met
+    (λ κs a x later. (e : TpmError) → x ≡ Err e → OfCommand (book_of a.0) a.1.0.now (numbered e))
+command_handles_range κs a x v met = told said_range Err (λ e. refl) (handles (book_of a.0) a.1.0.now) met
 
 pub command_auth_area_range : Promised 1 command-auth-area-range-kinds.ps command-auth-area-range-kinds.r command-auth-area-range-reads.Post
-    (λ κs a x later. (e : TpmError) → x ≡ range.Refused e → OfCommand (book_of a.0) a.1.0.now (numbered e))
-command_auth_area_range κs a x v met = told said_range range.Refused (λ e. refl) (auth (book_of a.0) a.1.0.now) met
+    (λ κs a x later. (e : TpmError) → x ≡ Err e → OfCommand (book_of a.0) a.1.0.now (numbered e))
+command_auth_area_range κs a x v met = told said_range Err (λ e. refl) (auth (book_of a.0) a.1.0.now) met
 
 pub command_parameters_range : Promised 1 command-parameters-range-kinds.ps command-parameters-range-kinds.r command-parameters-range-reads.Post
-    (λ κs a x later. (e : TpmError) → x ≡ range.Refused e → OfCommand (book_of a.0) a.1.0.now (numbered e))
-command_parameters_range κs a x v met = told said_range range.Refused (λ e. refl) (parameters (book_of a.0) a.1.0.now) met
+    (λ κs a x later. (e : TpmError) → x ≡ Err e → OfCommand (book_of a.0) a.1.0.now (numbered e))
+command_parameters_range κs a x v met = told said_range Err (λ e. refl) (parameters (book_of a.0) a.1.0.now) met
 
 pub command_cast_range : Promised 1 command-cast-range-kinds.ps command-cast-range-kinds.r command-cast-range-reads.Post
-    (λ κs a x later. (e : TpmError) → x ≡ range.Refused e → OfCommand (book_of a.0) a.1.0.now (numbered e))
-command_cast_range κs a x v met = told said_range range.Refused (λ e. refl) (by_step _ (only.only_cast_command (book_of a.0) a.1.0.now)) met
+    (λ κs a x later. (e : TpmError) → x ≡ Err e → OfCommand (book_of a.0) a.1.0.now (numbered e))
+command_cast_range κs a x v met = told said_range Err (λ e. refl) (by_step _ (only.only_cast_command (book_of a.0) a.1.0.now)) met
 
 pub command_cast_prefix_range : Promised 1 command-cast-prefix-range-kinds.ps command-cast-prefix-range-kinds.r command-cast-prefix-range-reads.Post
-    (λ κs a x later. (e : TpmError) → x ≡ range.Refused e → AtStart (OfCommand (book_of a.0)) a.1.0.now (numbered e))
-command_cast_prefix_range κs a x v met = told said_range range.Refused (λ e. refl) (by_step _ (only.only_cast_command_prefix (book_of a.0) a.1.0.now)) met
+    (λ κs a x later. (e : TpmError) → x ≡ Err e → AtStart (OfCommand (book_of a.0)) a.1.0.now (numbered e))
+command_cast_prefix_range κs a x v met = told said_range Err (λ e. refl) (by_step _ (only.only_cast_command_prefix (book_of a.0) a.1.0.now)) met
 
 pub command_validate : Promised 1 command-validate-kinds.ps command-validate-kinds.r command-validate-reads.Post
-    (λ κs a x later. (e : TpmError) → x ≡ outcome.Refused e → OfCommand (book_of a.0) a.1.0.now (numbered e))
-command_validate κs a x v met = told said_outcome outcome.Refused (λ e. refl) (by_done (only.only_command (book_of a.0) a.1.0.now)) met
+    (λ κs a x later. (e : TpmError) → x ≡ Err e → OfCommand (book_of a.0) a.1.0.now (numbered e))
+command_validate κs a x v met = told said Err (λ e. refl) (by_done (only.only_command (book_of a.0) a.1.0.now)) met
 
 pub command_parts_lem : Promised 1 command-parts-kinds.ps command-parts-kinds.r command-parts-reads.Post
-    (λ κs a x later. (e : TpmError) → x ≡ command.Refused e → OfCommand (book_of a.0) a.1.0.now (numbered e))
-command_parts_lem κs a x v met = told said_command command.Refused (λ e. refl) (by_step _ (only.only_command (book_of a.0) a.1.0.now)) met
+    (λ κs a x later. (e : TpmError) → x ≡ Err e → OfCommand (book_of a.0) a.1.0.now (numbered e))
+command_parts_lem κs a x v met = told said Err (λ e. refl) (by_step _ (only.only_command (book_of a.0) a.1.0.now)) met
 
 pub command_sessions : Promised 1 command-sessions-kinds.ps command-sessions-kinds.r command-sessions-reads.Post
-    (λ κs a x later. (e : TpmError) → x ≡ command-signed.Refused e → OfCommand (book_of a.0) a.1.0.now (numbered e))
-command_sessions κs a x v met = told said_command_sessions command-signed.Refused (λ e. refl) (by_step _ (only.only_command (book_of a.0) a.1.0.now)) met
+    (λ κs a x later. (e : TpmError) → x ≡ Err e → OfCommand (book_of a.0) a.1.0.now (numbered e))
+command_sessions κs a x v met = told said_command_sessions Err (λ e. refl) (by_step _ (only.only_command (book_of a.0) a.1.0.now)) met
 
 -- ---- responses
 
 pub response_rc : Promised 1 response-rc-kinds.ps response-rc-kinds.r response-rc-reads.Post
-    (λ κs a x later. (e : TpmError) → x ≡ response-code.Refused e → OfHeader (1 ∷ 5 ∷ []) a.1.0.now (numbered e))
-response_rc κs a x v met = told said_response_code response-code.Refused (λ e. refl) (only.only_rc a.1.0.now (book_of a.0)) met
+    (λ κs a x later. (e : TpmError) → x ≡ Err e → OfHeader (1 ∷ 5 ∷ []) a.1.0.now (numbered e))
+response_rc κs a x v met = told said_response_code Err (λ e. refl) (only.only_rc a.1.0.now (book_of a.0)) met
 
 pub response_set_rc : Promised 1 response-set-rc-kinds.ps response-set-rc-kinds.r response-set-rc-reads.Post
-    (λ κs a x later. (e : TpmError) → x ≡ outcome.Refused e → OfHeader (1 ∷ 5 ∷ []) a.1.0.now (numbered e))
-response_set_rc κs a x v met = told said_outcome outcome.Refused (λ e. refl) (by_done (only.only_set_rc a.1.0.now (book_of a.0) a.1.1.0.0)) met.0
+    (λ κs a x later. (e : TpmError) → x ≡ Err e → OfHeader (1 ∷ 5 ∷ []) a.1.0.now (numbered e))
+response_set_rc κs a x v met = told said Err (λ e. refl) (by_done (only.only_set_rc a.1.0.now (book_of a.0) a.1.1.0.0)) met.0
 
 pub response_body_range : Promised 1 response-body-range-kinds.ps response-body-range-kinds.r response-body-range-reads.Post
-    (λ κs a x later. (e : TpmError) → x ≡ range.Refused e → OfHeader (1 ∷ []) a.0.now (numbered e))
-response_body_range κs a x v met = told said_range range.Refused (λ e. refl) (only.only_body a.0.now) met
+    (λ κs a x later. (e : TpmError) → x ≡ Err e → OfHeader (1 ∷ []) a.0.now (numbered e))
+response_body_range κs a x v met = told said_range Err (λ e. refl) (only.only_body a.0.now) met
 
 pub response_cast_range : Promised 1 response-cast-range-kinds.ps response-cast-range-kinds.r response-cast-range-reads.Post
-    (λ κs a x later. (e : TpmError) → x ≡ range.Refused e → OfHeader (1 ∷ 2 ∷ 3 ∷ 5 ∷ []) a.1.0.now (numbered e))
-response_cast_range κs a x v met = told said_range range.Refused (λ e. refl) (by_step _ (only.only_cast_response (book_of a.0) a.1.0.now)) met
+    (λ κs a x later. (e : TpmError) → x ≡ Err e → OfHeader (1 ∷ 2 ∷ 3 ∷ 5 ∷ []) a.1.0.now (numbered e))
+response_cast_range κs a x v met = told said_range Err (λ e. refl) (by_step _ (only.only_cast_response (book_of a.0) a.1.0.now)) met
 
 pub response_cast_prefix_range : Promised 1 response-cast-prefix-range-kinds.ps response-cast-prefix-range-kinds.r response-cast-prefix-range-reads.Post
-    (λ κs a x later. (e : TpmError) → x ≡ range.Refused e → AtStart (OfHeader (1 ∷ 3 ∷ 5 ∷ [])) a.1.0.now (numbered e))
-response_cast_prefix_range κs a x v met = told said_range range.Refused (λ e. refl) (by_step _ (only.only_cast_response_prefix (book_of a.0) a.1.0.now)) met
+    (λ κs a x later. (e : TpmError) → x ≡ Err e → AtStart (OfHeader (1 ∷ 3 ∷ 5 ∷ [])) a.1.0.now (numbered e))
+response_cast_prefix_range κs a x v met = told said_range Err (λ e. refl) (by_step _ (only.only_cast_response_prefix (book_of a.0) a.1.0.now)) met
 
 pub response_validate : Promised 1 response-validate-kinds.ps response-validate-kinds.r response-validate-reads.Post
-    (λ κs a x later. (e : TpmError) → x ≡ outcome.Refused e → OfResponse (book_of a.0) a.1.0.0 a.1.1.0.now (numbered e))
-response_validate κs a x v met = told said_outcome outcome.Refused (λ e. refl) (by_done (only.only_response (book_of a.0) a.1.1.0.now a.1.0.0)) met
+    (λ κs a x later. (e : TpmError) → x ≡ Err e → OfResponse (book_of a.0) a.1.0.0 a.1.1.0.now (numbered e))
+response_validate κs a x v met = told said Err (λ e. refl) (by_done (only.only_response (book_of a.0) a.1.1.0.now a.1.0.0)) met
 
 pub response_parts_lem : Promised 1 response-parts-kinds.ps response-parts-kinds.r response-parts-reads.Post
-    (λ κs a x later. (e : TpmError) → x ≡ response.Refused e → OfResponse (book_of a.0) a.1.0.0 a.1.1.0.now (numbered e))
-response_parts_lem κs a x v met = told said_response response.Refused (λ e. refl) (by_step _ (only.only_response (book_of a.0) a.1.1.0.now a.1.0.0)) met
+    (λ κs a x later. (e : TpmError) → x ≡ Err e → OfResponse (book_of a.0) a.1.0.0 a.1.1.0.now (numbered e))
+response_parts_lem κs a x v met = told said Err (λ e. refl) (by_step _ (only.only_response (book_of a.0) a.1.1.0.now a.1.0.0)) met
 
 pub response_sessions : Promised 1 response-sessions-kinds.ps response-sessions-kinds.r response-sessions-reads.Post
-    (λ κs a x later. (e : TpmError) → x ≡ response-signed.Refused e → OfResponse (book_of a.0) a.1.0.0 a.1.1.0.now (numbered e))
-response_sessions κs a x v met = told said_response_sessions response-signed.Refused (λ e. refl) (by_step _ (only.only_response (book_of a.0) a.1.1.0.now a.1.0.0)) met
+    (λ κs a x later. (e : TpmError) → x ≡ Err e → OfResponse (book_of a.0) a.1.0.0 a.1.1.0.now (numbered e))
+response_sessions κs a x v met = told said_response_sessions Err (λ e. refl) (by_step _ (only.only_response (book_of a.0) a.1.1.0.now a.1.0.0)) met

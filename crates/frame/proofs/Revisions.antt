@@ -12,13 +12,13 @@ use borrow.Author.Tests.{leb-true}
 use lib.Dec.{leb}
 use lib.ListN.{length, take, drop}
 use lib.Seq.{length-take-le}
-use Rattle.base.specs.Answer.{said_command_code, said_outcome, said_range}
+use Rattle.std.specs.Prelude.{Ok}
+use Rattle.base.specs.Answer.{said_command_code, said, said_range}
 use Rattle.base.specs.Bytes.{bytes, number}
 use Rattle.base.specs.Members.{is_in}
 use Rattle.base.specs.Parts.{up_to}
 use Rattle.base.specs.declared.error.Area.TheVariants.{Header}
 use Rattle.base.specs.Field.{laid}
-use Rattle.base.specs.declared.answer.Outcome.TheVariants as outcome
 use Rattle.base.specs.Said.{in_area, Said, gives, refuses, after, done, given, within}
 use Rattle.base.proofs.Bytes.{length_bytes, number_bytes}
 use Rattle.base.proofs.Checks.{gives≢refuses, needs_gives, then_gives, gives_injective, within_gives}
@@ -34,11 +34,10 @@ use Rattle.table.proofs.Revisions.{same_row, stands_alike, from_138}
 use Rattle.table.proofs.Rows.{row_given, row_known}
 use Rattle.table.proofs.Table.{is_table}
 use Rattle.frame.specs.declared.command.Command.{Command}
-use Rattle.frame.specs.declared.command.CommandRead.TheVariants as command
 use Rattle.frame.specs.declared.rules.Reading.{Reading}
 use Rattle.frame.specs.declared.rules.Reading.TheVariants as reading
 use Rattle.frame.specs.declared.rules.Rules.{Rules}
-use Rattle.frame.specs.Answer.{command_by_value, response_by_value, said_command, said_response, said_command_sessions, said_response_sessions, signed, whole}
+use Rattle.frame.specs.Answer.{command_by_value, response_by_value, said_command_sessions, said_response_sessions, signed, whole}
 use Rattle.frame.specs.Areas.{handle_area, sized_area}
 use Rattle.frame.specs.Command.{command_handles, command_areas, judge_command, cast_command, cast_command_prefix, read_command, handles_range, auth_range, parameters_range}
 use Rattle.frame.specs.Header.{tag_of, size_of, code_of, read_cc, read_rc, set_cc, set_rc, frame_prefix, frame_whole, read_command_tag, read_response_tag}
@@ -226,12 +225,12 @@ command_cast_prefix_range κs a x v met other same = met ∙ ap up_to (same_pref
 
 pub command_validate : Promised 1 command-validate-kinds.ps command-validate-kinds.r command-validate-reads.Post
     (λ κs a x later. (other : Revision) → Stands a.0 other (code_of a.1.0.now)
-    → said_outcome x ≡ done (read_command (book_of (at other a.0)) a.1.0.now))
+    → said x ≡ done (read_command (book_of (at other a.0)) a.1.0.now))
 command_validate κs a x v met other same = met ∙ ap done (named_command a.0 other a.1.0.now same)
 
 pub command_parts_lem : Promised 1 command-parts-kinds.ps command-parts-kinds.r command-parts-reads.Post
     (λ κs a x later. (other : Revision) → Stands a.0 other (code_of a.1.0.now)
-    → said_command x ≡ command_by_value a.1.0.now (read_command (book_of (at other a.0)) a.1.0.now))
+    → said x ≡ command_by_value a.1.0.now (read_command (book_of (at other a.0)) a.1.0.now))
 command_parts_lem κs a x v met other same = met ∙ ap (command_by_value a.1.0.now) (named_command a.0 other a.1.0.now same)
 
 pub command_sessions : Promised 1 command-sessions-kinds.ps command-sessions-kinds.r command-sessions-reads.Post
@@ -241,7 +240,7 @@ command_sessions κs a x v met other same = met ∙ ap (signed a.1.0.now) (named
 
 pub command_set_cc : Promised 1 command-set-cc-kinds.ps command-set-cc-kinds.r command-set-cc-reads.Post
     (λ κs a x later. (other : Revision) → Stands a.0 other a.1.1.0.0
-    → (said_outcome x ≡ done (set_cc (book_of (at other a.0)) a.1.1.0.0 a.1.0.now))
+    → (said x ≡ done (set_cc (book_of (at other a.0)) a.1.1.0.0 a.1.0.now))
     × (later.1.0.now ≡ after a.1.0.now (set_cc (book_of (at other a.0)) a.1.1.0.0 a.1.0.now)))
 command_set_cc κs a x v met other same =
     let set = same_set_cc (is_table a.0.revision) (is_table other) a.0.reading _ same a.1.0.now in
@@ -249,12 +248,12 @@ command_set_cc κs a x v met other same =
 
 pub response_validate : Promised 1 response-validate-kinds.ps response-validate-kinds.r response-validate-reads.Post
     (λ κs a x later. (other : Revision) → Stands a.0 other a.1.0.0
-    → said_outcome x ≡ done (read_response (book_of (at other a.0)) a.1.0.0 a.1.1.0.now))
+    → said x ≡ done (read_response (book_of (at other a.0)) a.1.0.0 a.1.1.0.now))
 response_validate κs a x v met other same = met ∙ ap done (named_response a.0 other a.1.0.0 a.1.1.0.now same)
 
 pub response_parts_lem : Promised 1 response-parts-kinds.ps response-parts-kinds.r response-parts-reads.Post
     (λ κs a x later. (other : Revision) → Stands a.0 other a.1.0.0
-    → said_response x ≡ response_by_value a.1.1.0.now (read_response (book_of (at other a.0)) a.1.0.0 a.1.1.0.now))
+    → said x ≡ response_by_value a.1.1.0.now (read_response (book_of (at other a.0)) a.1.0.0 a.1.1.0.now))
 response_parts_lem κs a x v met other same = met ∙ ap (response_by_value a.1.1.0.now) (named_response a.0 other a.1.0.0 a.1.1.0.now same)
 
 pub response_sessions : Promised 1 response-sessions-kinds.ps response-sessions-kinds.r response-sessions-reads.Post
@@ -273,23 +272,23 @@ abbrev HasRow : Revision → ℕ → Type 0
 HasRow by code = (row : Row) × (row_for (table_of by) code ≡ gives row)
 
 pub command_parts_row : Promised 1 command-parts-kinds.ps command-parts-kinds.r command-parts-reads.Post
-    (λ κs a x later. (c : Command) → x ≡ command.Is c
+    (λ κs a x later. (c : Command) → x ≡ Ok c
     → (row : Row) × (row_for (table_of a.0.revision) c.cc.0 ≡ gives row) × (c.handles.to ≡ 10 + 4 * row.handles))
-command_parts_row κs a x v met c is = command_row (book_of a.0) a.1.0.now c (sym met ∙ ap said_command is)
+command_parts_row κs a x v met c is = command_row (book_of a.0) a.1.0.now c (sym met ∙ ap said is)
 
 pub response_validate_row : Promised 1 response-validate-kinds.ps response-validate-kinds.r response-validate-reads.Post
-    (λ κs a x later. x ≡ outcome.Done → HasRow a.0.revision a.1.0.0)
+    (λ κs a x later. x ≡ Ok tt → HasRow a.0.revision a.1.0.0)
 response_validate_row κs a x v met is =
-    let read = made (read_response (book_of a.0) a.1.0.0 a.1.1.0.now) (sym met ∙ ap said_outcome is) in
+    let read = made (read_response (book_of a.0) a.1.0.0 a.1.1.0.now) (sym met ∙ ap said is) in
     response_row (book_of a.0) a.1.0.0 a.1.1.0.now read.0 read.1
 
 pub command_set_cc_row : Promised 1 command-set-cc-kinds.ps command-set-cc-kinds.r command-set-cc-reads.Post
-    (λ κs a x later. x ≡ outcome.Done → HasRow a.0.revision a.1.1.0.0)
+    (λ κs a x later. x ≡ Ok tt → HasRow a.0.revision a.1.1.0.0)
 unfolding set_cc
 command_set_cc_row κs a x v met is =
     let code : ℕ = a.1.1.0.0 in
     let s : List ℕ = a.1.0.now in
-    let set = made (set_cc (book_of a.0) code s) (sym met.0 ∙ ap said_outcome is) in
+    let set = made (set_cc (book_of a.0) code s) (sym met.0 ∙ ap said is) in
     let found = then_gives (within Header (row_for (table_of a.0.revision) code)) _ (needs_gives (leb 10 (length s)) _ _ set.1).1 in
     (found.0, within_gives Header (row_for (table_of a.0.revision) code) found.1)
 

@@ -1,29 +1,24 @@
 -- Each public function of frame leaves a single answer and a single later state of what was lent (base, specs/Single.antt).
 -- Assumes nothing.
-use mathlib.Core.Path.{◌≡◌, refl, sym, ◌∙◌, ap}
+use mathlib.Core.Path.{◌≡◌, refl, sym, ◌∙◌}
 use denote.Ref.{as_bor}
 use Rattle.base.specs.Single.{Single, SinglePart}
-use Rattle.base.proofs.Refusals.{named_numbered}
+use Rattle.std.specs.Prelude.{Result}
+use Rattle.base.specs.declared.error.TpmError.{TpmError}
+use Rattle.base.specs.Error.{numbered}
+use Rattle.base.proofs.Refusals.{named, named_numbered}
 use Rattle.base.proofs.Answers.{
-  injective_by,
-  unsaid,
+  said_by_injective,
   said_command_code_injective,
-  said_number32_injective,
-  said_outcome_injective,
+  said_injective,
   said_range_injective,
   said_response_code_injective,
   said_tag_injective,
 }
 use Rattle.base.proofs.Parts.{same_part}
-use Rattle.frame.specs.declared.command.CommandRead.{CommandRead}
-use Rattle.frame.specs.declared.command.CommandRead.TheVariants as command
 use Rattle.frame.specs.declared.command.CommandSessions.{CommandSessions}
-use Rattle.frame.specs.declared.command.CommandSessions.TheVariants as command-signed
-use Rattle.frame.specs.declared.response.ResponseRead.{ResponseRead}
-use Rattle.frame.specs.declared.response.ResponseRead.TheVariants as response
 use Rattle.frame.specs.declared.response.ResponseSessions.{ResponseSessions}
-use Rattle.frame.specs.declared.response.ResponseSessions.TheVariants as response-signed
-use Rattle.frame.specs.Answer.{said_command, said_response, Signed, said_command_sessions, said_response_sessions}
+use Rattle.frame.specs.Answer.{said_command_sessions, said_response_sessions}
 use Rattle.frame.proofs.rules.longest.Kinds as rules-longest-kinds
 use Rattle.frame.proofs.rules.longest.Reads as rules-longest-reads
 use Rattle.frame.proofs.session.Entries.new.Kinds as entries-new-kinds
@@ -115,41 +110,13 @@ use Rattle.frame.proofs.response.parts.Reads as response-parts-reads
 use Rattle.frame.proofs.response.sessions.Kinds as response-sessions-kinds
 use Rattle.frame.proofs.response.sessions.Reads as response-sessions-reads
 
-told_command : (a : CommandRead) → unsaid command.Is command.Refused (said_command a) ≡ a
-told_command (command.Is c) = refl
-told_command (command.Refused e) = ap command.Refused (named_numbered e)
+pub said_command_sessions_injective : (a b : Result CommandSessions TpmError) → said_command_sessions a ≡ said_command_sessions b → a ≡ b
+said_command_sessions_injective =
+    said_by_injective (λ c. record { code = c.cc.0; entries = c.entries }) numbered (λ c. record { cc = record { 0 = c.code }; entries = c.entries }) named (λ c. refl) named_numbered
 
-pub said_command_injective : (a b : CommandRead) → said_command a ≡ said_command b → a ≡ b
-said_command_injective = injective_by said_command (unsaid command.Is command.Refused) told_command
-
-told_response : (a : ResponseRead) → unsaid response.Is response.Refused (said_response a) ≡ a
-told_response (response.Is r) = refl
-told_response (response.Refused e) = ap response.Refused (named_numbered e)
-
-pub said_response_injective : (a b : ResponseRead) → said_response a ≡ said_response b → a ≡ b
-said_response_injective = injective_by said_response (unsaid response.Is response.Refused) told_response
-
-abbrev command_sessions_of : Signed → CommandSessions
-command_sessions_of x = command-signed.Is (record { 0 = x.code }) x.entries
-
-told_command_sessions : (a : CommandSessions) → unsaid command_sessions_of command-signed.Refused (said_command_sessions a) ≡ a
-told_command_sessions (command-signed.Is cc entries) = refl
-told_command_sessions (command-signed.Refused e) = ap command-signed.Refused (named_numbered e)
-
-pub said_command_sessions_injective : (a b : CommandSessions) → said_command_sessions a ≡ said_command_sessions b → a ≡ b
-said_command_sessions_injective = injective_by said_command_sessions (unsaid command_sessions_of command-signed.Refused) told_command_sessions
-
-abbrev response_sessions_of : Signed → ResponseSessions
-response_sessions_of x = response-signed.Is (record { 0 = x.code }) x.entries
-
-told_response_sessions : (a : ResponseSessions) → unsaid response_sessions_of response-signed.Refused (said_response_sessions a) ≡ a
-told_response_sessions (response-signed.Is rc entries) = refl
-told_response_sessions (response-signed.Refused e) = ap response-signed.Refused (named_numbered e)
-
-pub said_response_sessions_injective : (a b : ResponseSessions) → said_response_sessions a ≡ said_response_sessions b → a ≡ b
-said_response_sessions_injective = injective_by said_response_sessions (unsaid response_sessions_of response-signed.Refused) told_response_sessions
-
--- ---- rules and header
+pub said_response_sessions_injective : (a b : Result ResponseSessions TpmError) → said_response_sessions a ≡ said_response_sessions b → a ≡ b
+said_response_sessions_injective =
+    said_by_injective (λ r. record { code = r.rc.0; entries = r.entries }) numbered (λ r. record { rc = record { 0 = r.code }; entries = r.entries }) named (λ r. refl) named_numbered
 
 rules_longest : Single 0 rules-longest-kinds.ps rules-longest-kinds.r rules-longest-reads.Post
 rules_longest κs a x y v w p q = (p ∙ sym q, refl)
@@ -161,10 +128,10 @@ frame_tag : Single 1 frame-tag-kinds.ps frame-tag-kinds.r frame-tag-reads.Post
 frame_tag κs a x y v w p q = (said_tag_injective x y (p ∙ sym q), refl)
 
 frame_size : Single 1 frame-size-kinds.ps frame-size-kinds.r frame-size-reads.Post
-frame_size κs a x y v w p q = (said_number32_injective x y (p ∙ sym q), refl)
+frame_size κs a x y v w p q = (said_injective x y (p ∙ sym q), refl)
 
 frame_set_tag : Single 1 frame-set-tag-kinds.ps frame-set-tag-kinds.r frame-set-tag-reads.Post
-frame_set_tag κs a x y v w p q = (said_outcome_injective x y (p.0 ∙ sym q.0), λ i. ((p.1 ∙ sym q.1) i, (tt, tt)))
+frame_set_tag κs a x y v w p q = (said_injective x y (p.0 ∙ sym q.0), λ i. ((p.1 ∙ sym q.1) i, (tt, tt)))
 
 frame_len : Single 1 frame-len-kinds.ps frame-len-kinds.r frame-len-reads.Post
 frame_len κs a x y v w p q = (p ∙ sym q, refl)
@@ -178,7 +145,7 @@ command_cc : Single 1 command-cc-kinds.ps command-cc-kinds.r command-cc-reads.Po
 command_cc κs a x y v w p q = (said_command_code_injective x y (p ∙ sym q), refl)
 
 command_set_cc : Single 1 command-set-cc-kinds.ps command-set-cc-kinds.r command-set-cc-reads.Post
-command_set_cc κs a x y v w p q = (said_outcome_injective x y (p.0 ∙ sym q.0), λ i. (tt, ((p.1 ∙ sym q.1) i, (tt, tt))))
+command_set_cc κs a x y v w p q = (said_injective x y (p.0 ∙ sym q.0), λ i. (tt, ((p.1 ∙ sym q.1) i, (tt, tt))))
 
 command_handles_range : Single 1 command-handles-range-kinds.ps command-handles-range-kinds.r command-handles-range-reads.Post
 command_handles_range κs a x y v w p q = (said_range_injective x y (p ∙ sym q), refl)
@@ -232,10 +199,10 @@ command_cast_prefix_tail_mut : SinglePart 1 command-cast-prefix-tail-mut-kinds.p
 command_cast_prefix_tail_mut κs a x y v w p q = (same_part (as_bor x) (as_bor y) p q, refl)
 
 command_validate : Single 1 command-validate-kinds.ps command-validate-kinds.r command-validate-reads.Post
-command_validate κs a x y v w p q = (said_outcome_injective x y (p ∙ sym q), refl)
+command_validate κs a x y v w p q = (said_injective x y (p ∙ sym q), refl)
 
 command_parts_lem : Single 1 command-parts-kinds.ps command-parts-kinds.r command-parts-reads.Post
-command_parts_lem κs a x y v w p q = (said_command_injective x y (p ∙ sym q), refl)
+command_parts_lem κs a x y v w p q = (said_injective x y (p ∙ sym q), refl)
 
 command_sessions : Single 1 command-sessions-kinds.ps command-sessions-kinds.r command-sessions-reads.Post
 command_sessions κs a x y v w p q = (said_command_sessions_injective x y (p ∙ sym q), refl)
@@ -246,7 +213,7 @@ response_rc : Single 1 response-rc-kinds.ps response-rc-kinds.r response-rc-read
 response_rc κs a x y v w p q = (said_response_code_injective x y (p ∙ sym q), refl)
 
 response_set_rc : Single 1 response-set-rc-kinds.ps response-set-rc-kinds.r response-set-rc-reads.Post
-response_set_rc κs a x y v w p q = (said_outcome_injective x y (p.0 ∙ sym q.0), λ i. (tt, ((p.1 ∙ sym q.1) i, (tt, tt))))
+response_set_rc κs a x y v w p q = (said_injective x y (p.0 ∙ sym q.0), λ i. (tt, ((p.1 ∙ sym q.1) i, (tt, tt))))
 
 response_body_range : Single 1 response-body-range-kinds.ps response-body-range-kinds.r response-body-range-reads.Post
 response_body_range κs a x y v w p q = (said_range_injective x y (p ∙ sym q), refl)
@@ -282,10 +249,10 @@ response_cast_prefix_tail_mut : SinglePart 1 response-cast-prefix-tail-mut-kinds
 response_cast_prefix_tail_mut κs a x y v w p q = (same_part (as_bor x) (as_bor y) p q, refl)
 
 response_validate : Single 1 response-validate-kinds.ps response-validate-kinds.r response-validate-reads.Post
-response_validate κs a x y v w p q = (said_outcome_injective x y (p ∙ sym q), refl)
+response_validate κs a x y v w p q = (said_injective x y (p ∙ sym q), refl)
 
 response_parts_lem : Single 1 response-parts-kinds.ps response-parts-kinds.r response-parts-reads.Post
-response_parts_lem κs a x y v w p q = (said_response_injective x y (p ∙ sym q), refl)
+response_parts_lem κs a x y v w p q = (said_injective x y (p ∙ sym q), refl)
 
 response_sessions : Single 1 response-sessions-kinds.ps response-sessions-kinds.r response-sessions-reads.Post
 response_sessions κs a x y v w p q = (said_response_sessions_injective x y (p ∙ sym q), refl)

@@ -1,40 +1,21 @@
 -- The answers of the frame's calls, in the paper's terms; and what the calls give back of a division, by value.
 -- Assumes nothing: these are definitions.
-use Rattle.std.specs.Prelude.{ℕ, Bool, true, false, List, length}
-use Rattle.base.specs.Answer.{Part}
+use Rattle.std.specs.Prelude.{ℕ, Bool, true, false, List, length, Result}
+use Rattle.base.specs.declared.error.TpmError.{TpmError}
+use Rattle.base.specs.Answer.{Part, said_by}
 use Rattle.base.specs.Error.{numbered}
 use Rattle.base.specs.Parts.{span}
-use Rattle.base.specs.Said.{Said, gives, refuses, then}
+use Rattle.base.specs.Said.{Said, gives, then}
 use Rattle.frame.specs.declared.areas.Areas.{Areas}
-use Rattle.frame.specs.declared.areas.Divided.{Divided}
-use Rattle.frame.specs.declared.areas.Divided.TheVariants as divided
 use Rattle.frame.specs.declared.session.Session.{Session}
 use Rattle.frame.specs.declared.session.Entries.{Entries}
 use Rattle.frame.specs.declared.command.Command.{Command}
-use Rattle.frame.specs.declared.command.CommandRead.{CommandRead}
-use Rattle.frame.specs.declared.command.CommandRead.TheVariants as command
 use Rattle.frame.specs.declared.command.CommandSessions.{CommandSessions}
-use Rattle.frame.specs.declared.command.CommandSessions.TheVariants as command-signed
 use Rattle.frame.specs.declared.response.Response.{Response}
-use Rattle.frame.specs.declared.response.ResponseRead.{ResponseRead}
-use Rattle.frame.specs.declared.response.ResponseRead.TheVariants as response
 use Rattle.frame.specs.declared.response.ResponseSessions.{ResponseSessions}
-use Rattle.frame.specs.declared.response.ResponseSessions.TheVariants as response-signed
 use Rattle.frame.specs.Command.{Division}
 use Rattle.frame.specs.Header.{tag_of, code_of}
 use Rattle.frame.specs.Walk.{behind, by_value}
-
-abbrev pub said_areas : Divided → Said Areas
-said_areas (divided.Is a) = gives a
-said_areas (divided.Refused e) = refuses (numbered e)
-
-abbrev pub said_command : CommandRead → Said Command
-said_command (command.Is c) = gives c
-said_command (command.Refused e) = refuses (numbered e)
-
-abbrev pub said_response : ResponseRead → Said Response
-said_response (response.Is r) = gives r
-said_response (response.Refused e) = refuses (numbered e)
 
 -- what is asked of an entry and of a division by those who need no more: the place behind the one, the areas of the other
 abbrev pub behind_of : Said Session → Said ℕ
@@ -93,15 +74,12 @@ pub record Signed : Type 0 where
 abbrev pub signed : List ℕ → Said Division → Said Signed
 signed s division = then division λ d. gives (record { code = code_of s; entries = by_value d.entries })
 
--- a command's answer in these terms
-abbrev pub said_command_sessions : CommandSessions → Said Signed
-said_command_sessions (command-signed.Is cc entries) = gives (record { code = cc.0; entries = entries })
-said_command_sessions (command-signed.Refused e) = refuses (numbered e)
+-- a command's and a response's answer in these terms
+abbrev pub said_command_sessions : Result CommandSessions TpmError → Said Signed
+said_command_sessions = said_by (λ c. record { code = c.cc.0; entries = c.entries }) numbered
 
--- a response's answer in these terms
-abbrev pub said_response_sessions : ResponseSessions → Said Signed
-said_response_sessions (response-signed.Is rc entries) = gives (record { code = rc.0; entries = entries })
-said_response_sessions (response-signed.Refused e) = refuses (numbered e)
+abbrev pub said_response_sessions : Result ResponseSessions TpmError → Said Signed
+said_response_sessions = said_by (λ r. record { code = r.rc.0; entries = r.entries }) numbered
 
 -- ---- ranges of lent bytes
 

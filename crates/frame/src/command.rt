@@ -1,26 +1,26 @@
 // Commands. A range read says what is refused and why; the part read of the same name is then empty.
 ghost use Rattle.std.specs.Prelude.{◌≡◌, length};
 ghost use Rattle.std.specs.Borrow.{sem};
-ghost use Rattle.base.specs.Answer.{said_command_code, said_count, said_outcome, said_range};
+ghost use Rattle.base.specs.Answer.{said, said_command_code, said_range};
 ghost use Rattle.base.specs.Parts.{IsPart, IsPartMut, LendsPart, behind, up_to};
 ghost use Rattle.base.specs.Said.{after, done};
-ghost use Rattle.frame.specs.Answer.{areas_of, command_by_value, said_areas, said_command, said_command_sessions, signed, whole};
+ghost use Rattle.frame.specs.Answer.{areas_of, command_by_value, said_command_sessions, signed, whole};
 ghost use Rattle.frame.specs.Command.{auth_range, cast_command, cast_command_prefix, command_areas, command_handles, handles_range, judge_command, parameters_range, read_command};
 ghost use Rattle.frame.specs.Header.{read_cc, set_cc};
 ghost use Rattle.frame.specs.Rules.{book_of};
 
-use crate::areas::{Divided, handle_area, sized_area};
-use crate::header::{HEADER_SIZE, SESSIONS, command_tag, frame_prefix, frame_whole, short};
+use crate::areas::{Areas, handle_area, sized_area};
+use crate::header::{
+    HEADER_SIZE, SESSIONS, code_of, command_tag, frame_prefix, frame_whole, short, tag_of,
+};
 use crate::rules::{Rules, longest};
 use crate::session::Entries;
 use crate::walk::{entries, walk};
-use base::answer::{CommandCode, Count, Outcome, Range, Tag};
 use base::code::{TpmCc, TpmSt};
 use base::error::{Area, TpmError};
-use base::field::{be16, be32, write_u32};
+use base::field::write_u32;
 use base::part::{Span, behind, part, part_mut};
 use table::dispatch::{cc_known, find};
-use table::row::Found;
 use table::tag::tag_known;
 
 // A passing command by value: its areas by where they stand, its entries by their count and the first three.
@@ -35,147 +35,119 @@ pub struct Command {
     pub entries: Entries,
 }
 
-#[derive(Clone, Copy)]
-pub enum CommandRead {
-    Is(Command),
-    Refused(TpmError),
-}
-
 // What a passing command says of sessions: its code, and its entries.
 #[derive(Clone, Copy)]
-pub enum CommandSessions {
-    Is { cc: TpmCc, entries: Entries },
-    Refused(TpmError),
+pub struct CommandSessions {
+    pub cc: TpmCc,
+    pub entries: Entries,
 }
 
 // ---- the code
 
 // The command code, one that is known.
-pub fn cc(rules: Rules, s: &[u8]) -> CommandCode
+pub fn cc(rules: Rules, s: &[u8]) -> Result<TpmCc, TpmError>
     ensures { said_command_code result ≡ read_cc (book_of rules) s.now }
 {
     if s.len() < HEADER_SIZE {
-        return CommandCode::Refused(short(s.len()));
+        return Err(short(s.len()));
     }
-    let cc = TpmCc(be32(s[6], s[7], s[8], s[9]));
+    let cc = TpmCc(code_of(s));
     let revision = rules.revision;
     if cc_known(revision, cc) {
-        CommandCode::Is(cc)
+        Ok(cc)
     } else {
-        CommandCode::Refused(cc.refused(Area::Header, 6))
+        Err(cc.refused(Area::Header, 6))
     }
 }
 
 // Changes the command code to one that has a row, and nothing else.
-pub fn set_cc(rules: Rules, s: &mut [u8], cc: TpmCc) -> Outcome
-    ensures answer { said_outcome result ≡ done (set_cc (book_of rules) cc.0 s.old) }
+pub fn set_cc(rules: Rules, s: &mut [u8], cc: TpmCc) -> Result<(), TpmError>
+    ensures answer { said result ≡ done (set_cc (book_of rules) cc.0 s.old) }
     ensures bytes { s.new ≡ after s.old (set_cc (book_of rules) cc.0 s.old) }
 {
     if s.len() < HEADER_SIZE {
-        return Outcome::Refused(short(s.len()));
+        return Err(short(s.len()));
     }
     let revision = rules.revision;
-    match find(revision, cc) {
-        Found::Refused(_) => Outcome::Refused(cc.refused(Area::Header, 0)),
-        Found::Is(_) => write_u32(s, 6, cc.0),
-    }
+    let Ok(_) = find(revision, cc) else {
+        return Err(cc.refused(Area::Header, 0));
+    };
+    write_u32(s, 6, cc.0)
 }
 
 // ---- the areas
 
 // Where the handles end. The known codes are those with a row, by every table that can be named: so a code without one is not known.
-fn handles_end(rules: Rules, s: &[u8]) -> Count
-    ensures { said_count result ≡ command_handles (book_of rules) s.now }
+fn handles_end(rules: Rules, s: &[u8]) -> Result<usize, TpmError>
+    ensures { said result ≡ command_handles (book_of rules) s.now }
 {
     if s.len() < HEADER_SIZE {
-        return Count::Refused(short(s.len()));
+        return Err(short(s.len()));
     }
-    let cc = TpmCc(be32(s[6], s[7], s[8], s[9]));
+    let cc = TpmCc(code_of(s));
     let revision = rules.revision;
     match find(revision, cc) {
-        Found::Is(row) => handle_area(row.handles, s),
-        Found::Refused(_) => Count::Refused(cc.refused(Area::Header, 6)),
+        Ok(row) => handle_area(row.handles, s),
+        Err(_) => Err(cc.refused(Area::Header, 6)),
     }
 }
 
-fn areas(rules: Rules, s: &[u8]) -> Divided
-    ensures { said_areas result ≡ command_areas (book_of rules) s.now }
+fn areas(rules: Rules, s: &[u8]) -> Result<Areas, TpmError>
+    ensures { said result ≡ command_areas (book_of rules) s.now }
 {
-    match handles_end(rules, s) {
-        Count::Refused(e) => Divided::Refused(e),
-        Count::Is(handles) => {
-            let tag = TpmSt(be16(s[0], s[1]));
-            if tag_known(tag) {
-                sized_area(Area::Authorization, tag.0 == SESSIONS, handles, s, handles)
-            } else {
-                Divided::Refused(tag.refused(Area::Header, 0))
-            }
-        }
+    let handles = handles_end(rules, s)?;
+    let tag = tag_of(s);
+    if tag_known(tag) {
+        sized_area(Area::Authorization, tag.0 == SESSIONS, handles, s, handles)
+    } else {
+        Err(tag.refused(Area::Header, 0))
     }
 }
 
 // What is judged of a command behind its size. A tag of the two is one that TpmSt has.
-fn judge(rules: Rules, s: &[u8]) -> Divided
-    ensures { said_areas result ≡ judge_command (book_of rules) s.now }
+fn judge(rules: Rules, s: &[u8]) -> Result<Areas, TpmError>
+    ensures { said result ≡ judge_command (book_of rules) s.now }
 {
-    match command_tag(s) {
-        Tag::Refused(e) => Divided::Refused(e),
-        Tag::Is(tag) => match handles_end(rules, s) {
-            Count::Refused(e) => Divided::Refused(e),
-            Count::Is(handles) => sized_area(
-                Area::Authorization,
-                tag.0 == SESSIONS,
-                handles,
-                s,
-                handles,
-            ),
-        },
-    }
+    let tag = command_tag(s)?;
+    let handles = handles_end(rules, s)?;
+    sized_area(Area::Authorization, tag.0 == SESSIONS, handles, s, handles)
 }
 
-fn cast_areas(rules: Rules, s: &[u8]) -> Divided
-    ensures { said_areas result ≡ cast_command (book_of rules) s.now }
+fn cast_areas(rules: Rules, s: &[u8]) -> Result<Areas, TpmError>
+    ensures { said result ≡ cast_command (book_of rules) s.now }
 {
-    match frame_whole(s) {
-        Count::Refused(e) => Divided::Refused(e),
-        Count::Is(_) => judge(rules, s),
-    }
+    frame_whole(s)?;
+    judge(rules, s)
 }
 
-pub fn handles_range(rules: Rules, s: &[u8]) -> Range
+pub fn handles_range(rules: Rules, s: &[u8]) -> Result<Span, TpmError>
     ensures { said_range result ≡ handles_range (book_of rules) s.now }
 {
-    match handles_end(rules, s) {
-        Count::Refused(e) => Range::Refused(e),
-        Count::Is(to) => Range::Is {
-            from: HEADER_SIZE,
-            to,
-        },
-    }
+    let to = handles_end(rules, s)?;
+    Ok(Span {
+        from: HEADER_SIZE,
+        to,
+    })
 }
 
-pub fn auth_area_range(rules: Rules, s: &[u8]) -> Range
+pub fn auth_area_range(rules: Rules, s: &[u8]) -> Result<Span, TpmError>
     ensures { said_range result ≡ auth_range (book_of rules) s.now }
 {
-    match areas(rules, s) {
-        Divided::Refused(e) => Range::Refused(e),
-        Divided::Is(a) => Range::Is {
-            from: a.from,
-            to: a.to,
-        },
-    }
+    let a = areas(rules, s)?;
+    Ok(Span {
+        from: a.from,
+        to: a.to,
+    })
 }
 
-pub fn parameters_range(rules: Rules, s: &[u8]) -> Range
+pub fn parameters_range(rules: Rules, s: &[u8]) -> Result<Span, TpmError>
     ensures { said_range result ≡ parameters_range (book_of rules) s.now }
 {
-    match areas(rules, s) {
-        Divided::Refused(e) => Range::Refused(e),
-        Divided::Is(a) => Range::Is {
-            from: a.to,
-            to: s.len(),
-        },
-    }
+    let a = areas(rules, s)?;
+    Ok(Span {
+        from: a.to,
+        to: s.len(),
+    })
 }
 
 pub fn handles(rules: Rules, s: &[u8]) -> &[u8]
@@ -222,16 +194,14 @@ pub fn parameters_mut(rules: Rules, s: &mut [u8]) -> &mut [u8]
 
 // ---- casts
 
-pub fn cast_range(rules: Rules, s: &[u8]) -> Range
+pub fn cast_range(rules: Rules, s: &[u8]) -> Result<Span, TpmError>
     ensures { said_range result ≡ whole s.now (cast_command (book_of rules) s.now) }
 {
-    match cast_areas(rules, s) {
-        Divided::Refused(e) => Range::Refused(e),
-        Divided::Is(_) => Range::Is {
-            from: 0,
-            to: s.len(),
-        },
-    }
+    cast_areas(rules, s)?;
+    Ok(Span {
+        from: 0,
+        to: s.len(),
+    })
 }
 
 pub fn cast(rules: Rules, s: &[u8]) -> &[u8]
@@ -249,16 +219,12 @@ pub fn cast_mut(rules: Rules, s: &mut [u8]) -> &mut [u8]
 }
 
 // The command at the start of s.
-pub fn cast_prefix_range(rules: Rules, s: &[u8]) -> Range
+pub fn cast_prefix_range(rules: Rules, s: &[u8]) -> Result<Span, TpmError>
     ensures { said_range result ≡ up_to (cast_command_prefix (book_of rules) s.now) }
 {
-    match frame_prefix(s) {
-        Count::Refused(e) => Range::Refused(e),
-        Count::Is(n) => match judge(rules, &s[..n]) {
-            Divided::Refused(e) => Range::Refused(e),
-            Divided::Is(_) => Range::Is { from: 0, to: n },
-        },
-    }
+    let to = frame_prefix(s)?;
+    judge(rules, &s[..to])?;
+    Ok(Span { from: 0, to })
 }
 
 pub fn cast_prefix(rules: Rules, s: &[u8]) -> &[u8]
@@ -276,7 +242,7 @@ pub fn cast_prefix_mut(rules: Rules, s: &mut [u8]) -> &mut [u8]
 }
 
 // What stands behind the command at the start of s.
-fn prefix_tail_range(rules: Rules, s: &[u8]) -> Range
+fn prefix_tail_range(rules: Rules, s: &[u8]) -> Result<Span, TpmError>
     ensures { said_range result ≡ behind (up_to (cast_command_prefix (book_of rules) s.now)) (length s.now) }
 {
     behind(cast_prefix_range(rules, s), s.len())
@@ -299,69 +265,51 @@ pub fn cast_prefix_tail_mut(rules: Rules, s: &mut [u8]) -> &mut [u8]
 // ---- the full check
 
 // The areas, where the entries pass.
-fn divide(rules: Rules, s: &[u8]) -> Divided
-    ensures { said_areas result ≡ areas_of (read_command (book_of rules) s.now) }
+fn divide(rules: Rules, s: &[u8]) -> Result<Areas, TpmError>
+    ensures { said result ≡ areas_of (read_command (book_of rules) s.now) }
 {
-    match cast_areas(rules, s) {
-        Divided::Refused(e) => Divided::Refused(e),
-        Divided::Is(a) => {
-            let to = a.to;
-            match walk(longest(rules), true, &s[..to], a.from) {
-                Outcome::Refused(e) => Divided::Refused(e),
-                Outcome::Done => Divided::Is(a),
-            }
-        }
-    }
+    let a = cast_areas(rules, s)?;
+    walk(longest(rules), true, &s[..a.to], a.from)?;
+    Ok(a)
 }
 
-pub fn validate(rules: Rules, s: &[u8]) -> Outcome
-    ensures { said_outcome result ≡ done (read_command (book_of rules) s.now) }
+pub fn validate(rules: Rules, s: &[u8]) -> Result<(), TpmError>
+    ensures { said result ≡ done (read_command (book_of rules) s.now) }
 {
-    match divide(rules, s) {
-        Divided::Refused(e) => Outcome::Refused(e),
-        Divided::Is(_) => Outcome::Done,
-    }
+    divide(rules, s)?;
+    Ok(())
 }
 
 // All parts of a passing command.
-pub fn parts(rules: Rules, s: &[u8]) -> CommandRead
-    ensures { said_command result ≡ command_by_value s.now (read_command (book_of rules) s.now) }
+pub fn parts(rules: Rules, s: &[u8]) -> Result<Command, TpmError>
+    ensures { said result ≡ command_by_value s.now (read_command (book_of rules) s.now) }
 {
-    match divide(rules, s) {
-        Divided::Refused(e) => CommandRead::Refused(e),
-        Divided::Is(a) => {
-            let from = a.from;
-            let to = a.to;
-            CommandRead::Is(Command {
-                tag: TpmSt(be16(s[0], s[1])),
-                cc: TpmCc(be32(s[6], s[7], s[8], s[9])),
-                handles: Span {
-                    from: HEADER_SIZE,
-                    to: a.handles,
-                },
-                auth: Span { from, to },
-                parameters: Span {
-                    from: to,
-                    to: s.len(),
-                },
-                entries: entries(true, &s[..to], from),
-            })
-        }
-    }
+    let a = divide(rules, s)?;
+    let from = a.from;
+    let to = a.to;
+    Ok(Command {
+        tag: tag_of(s),
+        cc: TpmCc(code_of(s)),
+        handles: Span {
+            from: HEADER_SIZE,
+            to: a.handles,
+        },
+        auth: Span { from, to },
+        parameters: Span {
+            from: to,
+            to: s.len(),
+        },
+        entries: entries(true, &s[..to], from),
+    })
 }
 
 // Code and entries of a passing command, for those who need no more.
-pub fn sessions(rules: Rules, s: &[u8]) -> CommandSessions
+pub fn sessions(rules: Rules, s: &[u8]) -> Result<CommandSessions, TpmError>
     ensures { said_command_sessions result ≡ signed s.now (read_command (book_of rules) s.now) }
 {
-    match divide(rules, s) {
-        Divided::Refused(e) => CommandSessions::Refused(e),
-        Divided::Is(a) => {
-            let to = a.to;
-            CommandSessions::Is {
-                cc: TpmCc(be32(s[6], s[7], s[8], s[9])),
-                entries: entries(true, &s[..to], a.from),
-            }
-        }
-    }
+    let a = divide(rules, s)?;
+    Ok(CommandSessions {
+        cc: TpmCc(code_of(s)),
+        entries: entries(true, &s[..a.to], a.from),
+    })
 }

@@ -1,13 +1,12 @@
 // The header of a frame: the fields that commands and responses share, and the envelope.
-ghost use Rattle.std.specs.Prelude.{◌≡◌, [], ◌∷◌, eqb, length};
-ghost use Rattle.base.specs.Answer.{said_count, said_number32, said_outcome, said_tag};
+ghost use Rattle.std.specs.Prelude.{◌≡◌, [], ◌∷◌, ◌≤◌, eqb, length};
+ghost use Rattle.base.specs.Answer.{said, said_tag};
 ghost use Rattle.base.specs.Error.{numbered};
 ghost use Rattle.base.specs.Said.{after, done, in_area};
-ghost use Rattle.frame.specs.Header.{frame_prefix, frame_whole, is_of_two, is_response_tag, is_rsp_command, read_command_tag, read_response_tag, read_size, read_tag, set_tag};
+ghost use Rattle.frame.specs.Header.{code_of, frame_prefix, frame_whole, is_of_two, is_response_tag, is_rsp_command, read_command_tag, read_response_tag, read_size, read_tag, set_tag, tag_of};
 ghost use Rattle.frame.specs.Rules.{book_of};
 
 use crate::rules::{Rules, knows_bad_tag};
-use base::answer::{Count, Number32, Outcome, Tag};
 use base::code::TpmSt;
 use base::error::{Area, TpmError};
 use base::field::{be16, be32, write_u16};
@@ -38,18 +37,33 @@ pub(crate) fn short(len: usize) -> TpmError
     }
 }
 
+// The tag and the code of a header that is there, as they stand.
+pub(crate) fn tag_of(s: &[u8]) -> TpmSt
+    requires { 10 ≤ length s.now }
+    ensures { result.0 ≡ tag_of s.now }
+{
+    TpmSt(be16(s[0], s[1]))
+}
+
+pub(crate) fn code_of(s: &[u8]) -> u32
+    requires { 10 ≤ length s.now }
+    ensures { result ≡ code_of s.now }
+{
+    be32(s[6], s[7], s[8], s[9])
+}
+
 // The tag, one that TpmSt has.
-pub fn tag(s: &[u8]) -> Tag
+pub fn tag(s: &[u8]) -> Result<TpmSt, TpmError>
     ensures { said_tag result ≡ read_tag s.now }
 {
     if s.len() < HEADER_SIZE {
-        return Tag::Refused(short(s.len()));
+        return Err(short(s.len()));
     }
-    let tag = TpmSt(be16(s[0], s[1]));
+    let tag = tag_of(s);
     if tag_known(tag) {
-        Tag::Is(tag)
+        Ok(tag)
     } else {
-        Tag::Refused(tag.refused(Area::Header, 0))
+        Err(tag.refused(Area::Header, 0))
     }
 }
 
@@ -61,17 +75,17 @@ fn is_of_two(tag: TpmSt) -> bool
 }
 
 // The tag of a command, one of the two.
-pub(crate) fn command_tag(s: &[u8]) -> Tag
+pub(crate) fn command_tag(s: &[u8]) -> Result<TpmSt, TpmError>
     ensures { said_tag result ≡ read_command_tag s.now }
 {
     if s.len() < HEADER_SIZE {
-        return Tag::Refused(short(s.len()));
+        return Err(short(s.len()));
     }
-    let tag = TpmSt(be16(s[0], s[1]));
+    let tag = tag_of(s);
     if is_of_two(tag) {
-        Tag::Is(tag)
+        Ok(tag)
     } else {
-        Tag::Refused(tag.refused(Area::Header, 0))
+        Err(tag.refused(Area::Header, 0))
     }
 }
 
@@ -89,55 +103,55 @@ fn is_response_tag(rules: Rules, tag: TpmSt) -> bool
 }
 
 // The tag of a response: one of the two, or that of the answer to a bad tag.
-pub(crate) fn response_tag(rules: Rules, s: &[u8]) -> Tag
+pub(crate) fn response_tag(rules: Rules, s: &[u8]) -> Result<TpmSt, TpmError>
     ensures { said_tag result ≡ read_response_tag (book_of rules) s.now }
 {
     if s.len() < HEADER_SIZE {
-        return Tag::Refused(short(s.len()));
+        return Err(short(s.len()));
     }
-    let tag = TpmSt(be16(s[0], s[1]));
+    let tag = tag_of(s);
     if is_response_tag(rules, tag) {
-        Tag::Is(tag)
+        Ok(tag)
     } else {
-        Tag::Refused(tag.refused(Area::Header, 0))
+        Err(tag.refused(Area::Header, 0))
     }
 }
 
 // The size field, not judged.
-pub fn size(s: &[u8]) -> Number32
-    ensures { said_number32 result ≡ read_size s.now }
+pub fn size(s: &[u8]) -> Result<u32, TpmError>
+    ensures { said result ≡ read_size s.now }
 {
     if s.len() < HEADER_SIZE {
-        return Number32::Refused(short(s.len()));
+        return Err(short(s.len()));
     }
-    Number32::Is(be32(s[2], s[3], s[4], s[5]))
+    Ok(be32(s[2], s[3], s[4], s[5]))
 }
 
 // Changes the tag and nothing else.
-pub fn set_tag(s: &mut [u8], tag: TpmSt) -> Outcome
-    ensures answer { said_outcome result ≡ done (set_tag tag.0 s.old) }
+pub fn set_tag(s: &mut [u8], tag: TpmSt) -> Result<(), TpmError>
+    ensures answer { said result ≡ done (set_tag tag.0 s.old) }
     ensures bytes { s.new ≡ after s.old (set_tag tag.0 s.old) }
 {
     if s.len() < HEADER_SIZE {
-        return Outcome::Refused(short(s.len()));
+        return Err(short(s.len()));
     }
     if tag_known(tag) {
         write_u16(s, 0, tag.0)
     } else {
-        Outcome::Refused(tag.refused(Area::Header, 0))
+        Err(tag.refused(Area::Header, 0))
     }
 }
 
 // The bytes of the frame at the start of s, by its size field.
-pub(crate) fn frame_prefix(s: &[u8]) -> Count
-    ensures { said_count result ≡ frame_prefix s.now }
+pub(crate) fn frame_prefix(s: &[u8]) -> Result<usize, TpmError>
+    ensures { said result ≡ frame_prefix s.now }
 {
     if s.len() < HEADER_SIZE {
-        return Count::Refused(short(s.len()));
+        return Err(short(s.len()));
     }
     let size = be32(s[2], s[3], s[4], s[5]) as usize;
     if size < HEADER_SIZE {
-        return Count::Refused(TpmError::UnexpectedEnd {
+        return Err(TpmError::UnexpectedEnd {
             area: Area::Header,
             offset: 2,
             needed: HEADER_SIZE,
@@ -145,34 +159,29 @@ pub(crate) fn frame_prefix(s: &[u8]) -> Count
         });
     }
     if s.len() < size {
-        return Count::Refused(TpmError::UnexpectedEnd {
+        return Err(TpmError::UnexpectedEnd {
             area: Area::Header,
             offset: s.len(),
             needed: size - s.len(),
             available: 0,
         });
     }
-    Count::Is(size)
+    Ok(size)
 }
 
 // The same of bytes that are one frame and nothing else.
-pub(crate) fn frame_whole(s: &[u8]) -> Count
-    ensures { said_count result ≡ frame_whole s.now }
+pub(crate) fn frame_whole(s: &[u8]) -> Result<usize, TpmError>
+    ensures { said result ≡ frame_whole s.now }
 {
-    let read = frame_prefix(s);
-    match read {
-        Count::Refused(e) => Count::Refused(e),
-        Count::Is(n) => {
-            if n < s.len() {
-                return Count::Refused(TpmError::TrailingData {
-                    area: Area::Header,
-                    offset: n,
-                    actual: s.len() - n,
-                });
-            }
-            Count::Is(n)
-        }
+    let n = frame_prefix(s)?;
+    if n < s.len() {
+        return Err(TpmError::TrailingData {
+            area: Area::Header,
+            offset: n,
+            actual: s.len() - n,
+        });
     }
+    Ok(n)
 }
 
 pub fn len(s: &[u8]) -> usize

@@ -1,30 +1,28 @@
 // Responses. Whether a response passes depends on the command that it answers: its code is asked for.
 ghost use Rattle.std.specs.Prelude.{◌≡◌, ◌≤◌, length, ◌||◌, eqb};
 ghost use Rattle.std.specs.Borrow.{sem};
-ghost use Rattle.base.specs.Answer.{said_outcome, said_range, said_response_code};
+ghost use Rattle.base.specs.Answer.{said, said_range, said_response_code};
 ghost use Rattle.base.specs.Parts.{IsPart, IsPartMut, LendsPart, behind, up_to};
 ghost use Rattle.base.specs.Said.{after, done};
-ghost use Rattle.frame.specs.Answer.{areas_of, response_by_value, said_areas, said_response, said_response_sessions, signed, whole};
+ghost use Rattle.frame.specs.Answer.{areas_of, response_by_value, said_response_sessions, signed, whole};
 ghost use Rattle.frame.specs.Header.{is_rsp_command, plain, reads, read_rc, set_rc};
 ghost use Rattle.frame.specs.Response.{body_range, cast_response, cast_response_prefix, error_areas, judge_response, read_response, response_areas, success_areas};
 ghost use Rattle.frame.specs.Rules.{book_of};
 
-use crate::areas::{Areas, Divided, handle_area, sized_area};
+use crate::areas::{Areas, handle_area, sized_area};
 use crate::header::{
-    BAD_TAG, HEADER_SIZE, PLAIN, SESSIONS, frame_prefix, frame_whole, is_rsp_command, response_tag,
-    short,
+    BAD_TAG, HEADER_SIZE, PLAIN, SESSIONS, code_of, frame_prefix, frame_whole, is_rsp_command,
+    response_tag, short, tag_of,
 };
 use crate::rules::{Rules, longest};
 use crate::session::Entries;
 use crate::walk::{entries, walk};
-use base::answer::{Count, Outcome, Range, ResponseCode, Tag};
 use base::code::{TpmCc, TpmRc, TpmSt};
 use base::error::{Area, TpmError};
-use base::field::{be16, be32, write_u32};
+use base::field::write_u32;
 use base::part::{Span, behind, part, part_mut};
-use rc::code::{Answer, read};
+use rc::code::read;
 use table::dispatch::find;
-use table::row::Found;
 
 // A passing response by value: its areas by where they stand, its entries by their count and the first three.
 #[repr(C)]
@@ -38,17 +36,11 @@ pub struct Response {
     pub entries: Entries,
 }
 
-#[derive(Clone, Copy)]
-pub enum ResponseRead {
-    Is(Response),
-    Refused(TpmError),
-}
-
 // What a passing response says of sessions: its code, and its entries.
 #[derive(Clone, Copy)]
-pub enum ResponseSessions {
-    Is { rc: TpmRc, entries: Entries },
-    Refused(TpmError),
+pub struct ResponseSessions {
+    pub rc: TpmRc,
+    pub entries: Entries,
 }
 
 // ---- the code
@@ -63,54 +55,51 @@ fn reads(rules: Rules, tag: TpmSt, rc: TpmRc) -> bool
     if rc.0 == 0 {
         return true;
     }
-    match read(rc) {
-        Answer::Code(_) => true,
-        Answer::Refused(_) => false,
-    }
+    read(rc).is_ok()
 }
 
 // The response code, one that reads.
-pub fn rc(rules: Rules, s: &[u8]) -> ResponseCode
+pub fn rc(rules: Rules, s: &[u8]) -> Result<TpmRc, TpmError>
     ensures { said_response_code result ≡ read_rc (book_of rules) s.now }
 {
     if s.len() < HEADER_SIZE {
-        return ResponseCode::Refused(short(s.len()));
+        return Err(short(s.len()));
     }
-    let rc = TpmRc(be32(s[6], s[7], s[8], s[9]));
-    if reads(rules, TpmSt(be16(s[0], s[1])), rc) {
-        ResponseCode::Is(rc)
+    let rc = TpmRc(code_of(s));
+    if reads(rules, tag_of(s), rc) {
+        Ok(rc)
     } else {
-        ResponseCode::Refused(rc.refused(Area::Header, 6))
+        Err(rc.refused(Area::Header, 6))
     }
 }
 
 // Changes the response code to one that reads, and nothing else.
-pub fn set_rc(rules: Rules, s: &mut [u8], rc: TpmRc) -> Outcome
-    ensures answer { said_outcome result ≡ done (set_rc (book_of rules) rc.0 s.old) }
+pub fn set_rc(rules: Rules, s: &mut [u8], rc: TpmRc) -> Result<(), TpmError>
+    ensures answer { said result ≡ done (set_rc (book_of rules) rc.0 s.old) }
     ensures bytes { s.new ≡ after s.old (set_rc (book_of rules) rc.0 s.old) }
 {
     if s.len() < HEADER_SIZE {
-        return Outcome::Refused(short(s.len()));
+        return Err(short(s.len()));
     }
-    if reads(rules, TpmSt(be16(s[0], s[1])), rc) {
+    if reads(rules, tag_of(s), rc) {
         write_u32(s, 6, rc.0)
     } else {
-        Outcome::Refused(rc.refused(Area::Header, 0))
+        Err(rc.refused(Area::Header, 0))
     }
 }
 
 // ---- the body
 
-pub fn body_range(s: &[u8]) -> Range
+pub fn body_range(s: &[u8]) -> Result<Span, TpmError>
     ensures { said_range result ≡ body_range s.now }
 {
     if s.len() < HEADER_SIZE {
-        return Range::Refused(short(s.len()));
+        return Err(short(s.len()));
     }
-    Range::Is {
+    Ok(Span {
         from: HEADER_SIZE,
         to: s.len(),
-    }
+    })
 }
 
 pub fn body(s: &[u8]) -> &[u8]
@@ -130,34 +119,28 @@ pub fn body_mut(s: &mut [u8]) -> &mut [u8]
 // ---- casts
 
 // What is judged of a response behind its size: its code, where it passes.
-fn judge(rules: Rules, s: &[u8]) -> ResponseCode
+fn judge(rules: Rules, s: &[u8]) -> Result<TpmRc, TpmError>
     ensures { said_response_code result ≡ judge_response (book_of rules) s.now }
 {
-    match response_tag(rules, s) {
-        Tag::Refused(e) => ResponseCode::Refused(e),
-        Tag::Is(_) => rc(rules, s),
-    }
+    response_tag(rules, s)?;
+    rc(rules, s)
 }
 
-fn cast_code(rules: Rules, s: &[u8]) -> ResponseCode
+fn cast_code(rules: Rules, s: &[u8]) -> Result<TpmRc, TpmError>
     ensures { said_response_code result ≡ cast_response (book_of rules) s.now }
 {
-    match frame_whole(s) {
-        Count::Refused(e) => ResponseCode::Refused(e),
-        Count::Is(_) => judge(rules, s),
-    }
+    frame_whole(s)?;
+    judge(rules, s)
 }
 
-pub fn cast_range(rules: Rules, s: &[u8]) -> Range
+pub fn cast_range(rules: Rules, s: &[u8]) -> Result<Span, TpmError>
     ensures { said_range result ≡ whole s.now (cast_response (book_of rules) s.now) }
 {
-    match cast_code(rules, s) {
-        ResponseCode::Refused(e) => Range::Refused(e),
-        ResponseCode::Is(_) => Range::Is {
-            from: 0,
-            to: s.len(),
-        },
-    }
+    cast_code(rules, s)?;
+    Ok(Span {
+        from: 0,
+        to: s.len(),
+    })
 }
 
 pub fn cast(rules: Rules, s: &[u8]) -> &[u8]
@@ -175,16 +158,12 @@ pub fn cast_mut(rules: Rules, s: &mut [u8]) -> &mut [u8]
 }
 
 // The response at the start of s.
-pub fn cast_prefix_range(rules: Rules, s: &[u8]) -> Range
+pub fn cast_prefix_range(rules: Rules, s: &[u8]) -> Result<Span, TpmError>
     ensures { said_range result ≡ up_to (cast_response_prefix (book_of rules) s.now) }
 {
-    match frame_prefix(s) {
-        Count::Refused(e) => Range::Refused(e),
-        Count::Is(n) => match judge(rules, &s[..n]) {
-            ResponseCode::Refused(e) => Range::Refused(e),
-            ResponseCode::Is(_) => Range::Is { from: 0, to: n },
-        },
-    }
+    let to = frame_prefix(s)?;
+    judge(rules, &s[..to])?;
+    Ok(Span { from: 0, to })
 }
 
 pub fn cast_prefix(rules: Rules, s: &[u8]) -> &[u8]
@@ -202,7 +181,7 @@ pub fn cast_prefix_mut(rules: Rules, s: &mut [u8]) -> &mut [u8]
 }
 
 // What stands behind the response at the start of s.
-fn prefix_tail_range(rules: Rules, s: &[u8]) -> Range
+fn prefix_tail_range(rules: Rules, s: &[u8]) -> Result<Span, TpmError>
     ensures { said_range result ≡ behind (up_to (cast_response_prefix (book_of rules) s.now)) (length s.now) }
 {
     behind(cast_prefix_range(rules, s), s.len())
@@ -225,17 +204,13 @@ pub fn cast_prefix_tail_mut(rules: Rules, s: &mut [u8]) -> &mut [u8]
 // ---- the full check
 
 // The areas of a success response.
-fn success_areas(responses: u8, s: &[u8]) -> Divided
+fn success_areas(responses: u8, s: &[u8]) -> Result<Areas, TpmError>
     requires { 10 ≤ length s.now }
-    ensures { said_areas result ≡ success_areas responses s.now }
+    ensures { said result ≡ success_areas responses s.now }
 {
-    match handle_area(responses, s) {
-        Count::Refused(e) => Divided::Refused(e),
-        Count::Is(handles) => {
-            let tag = TpmSt(be16(s[0], s[1]));
-            sized_area(Area::Parameters, tag.0 == SESSIONS, s.len(), s, handles)
-        }
-    }
+    let handles = handle_area(responses, s)?;
+    let tag = tag_of(s);
+    sized_area(Area::Parameters, tag.0 == SESSIONS, s.len(), s, handles)
 }
 
 // An error stands under the plain tag, or is the answer to a bad tag.
@@ -246,108 +221,92 @@ fn is_error_tag(rules: Rules, tag: TpmSt) -> bool
 }
 
 // The areas of an error response: a bare header.
-fn error_areas(rules: Rules, s: &[u8]) -> Divided
+fn error_areas(rules: Rules, s: &[u8]) -> Result<Areas, TpmError>
     requires { 10 ≤ length s.now }
-    ensures { said_areas result ≡ error_areas (book_of rules) s.now }
+    ensures { said result ≡ error_areas (book_of rules) s.now }
 {
-    let tag = TpmSt(be16(s[0], s[1]));
+    let tag = tag_of(s);
     if is_error_tag(rules, tag) {
         if HEADER_SIZE < s.len() {
-            return Divided::Refused(TpmError::TrailingData {
+            return Err(TpmError::TrailingData {
                 area: Area::Header,
                 offset: HEADER_SIZE,
                 actual: s.len() - HEADER_SIZE,
             });
         }
-        Divided::Is(Areas {
+        Ok(Areas {
             handles: HEADER_SIZE,
             from: HEADER_SIZE,
             to: HEADER_SIZE,
         })
     } else {
-        Divided::Refused(tag.refused(Area::Header, 0))
+        Err(tag.refused(Area::Header, 0))
     }
 }
 
-fn areas(rules: Rules, cc: TpmCc, s: &[u8]) -> Divided
-    ensures { said_areas result ≡ response_areas (book_of rules) cc.0 s.now }
+fn areas(rules: Rules, cc: TpmCc, s: &[u8]) -> Result<Areas, TpmError>
+    ensures { said result ≡ response_areas (book_of rules) cc.0 s.now }
 {
     let revision = rules.revision;
-    match cast_code(rules, s) {
-        ResponseCode::Refused(e) => Divided::Refused(e),
-        ResponseCode::Is(code) => match find(revision, cc) {
-            Found::Refused(_) => Divided::Refused(cc.refused(Area::Header, 0)),
-            Found::Is(row) => {
-                if code.0 == 0 {
-                    success_areas(row.responses, s)
-                } else {
-                    error_areas(rules, s)
-                }
-            }
-        },
+    let code = cast_code(rules, s)?;
+    let Ok(row) = find(revision, cc) else {
+        return Err(cc.refused(Area::Header, 0));
+    };
+    if code.0 == 0 {
+        success_areas(row.responses, s)
+    } else {
+        error_areas(rules, s)
     }
 }
 
 // The areas, where the entries pass.
-fn divide(rules: Rules, cc: TpmCc, s: &[u8]) -> Divided
-    ensures { said_areas result ≡ areas_of (read_response (book_of rules) cc.0 s.now) }
+fn divide(rules: Rules, cc: TpmCc, s: &[u8]) -> Result<Areas, TpmError>
+    ensures { said result ≡ areas_of (read_response (book_of rules) cc.0 s.now) }
 {
-    match areas(rules, cc, s) {
-        Divided::Refused(e) => Divided::Refused(e),
-        Divided::Is(a) => match walk(longest(rules), false, s, a.to) {
-            Outcome::Refused(e) => Divided::Refused(e),
-            Outcome::Done => Divided::Is(a),
-        },
-    }
+    let a = areas(rules, cc, s)?;
+    walk(longest(rules), false, s, a.to)?;
+    Ok(a)
 }
 
-pub fn validate(rules: Rules, cc: TpmCc, s: &[u8]) -> Outcome
-    ensures { said_outcome result ≡ done (read_response (book_of rules) cc.0 s.now) }
+pub fn validate(rules: Rules, cc: TpmCc, s: &[u8]) -> Result<(), TpmError>
+    ensures { said result ≡ done (read_response (book_of rules) cc.0 s.now) }
 {
-    match divide(rules, cc, s) {
-        Divided::Refused(e) => Outcome::Refused(e),
-        Divided::Is(_) => Outcome::Done,
-    }
+    divide(rules, cc, s)?;
+    Ok(())
 }
 
 // All parts of a passing response.
-pub fn parts(rules: Rules, cc: TpmCc, s: &[u8]) -> ResponseRead
-    ensures { said_response result ≡ response_by_value s.now (read_response (book_of rules) cc.0 s.now) }
+pub fn parts(rules: Rules, cc: TpmCc, s: &[u8]) -> Result<Response, TpmError>
+    ensures { said result ≡ response_by_value s.now (read_response (book_of rules) cc.0 s.now) }
 {
-    match divide(rules, cc, s) {
-        Divided::Refused(e) => ResponseRead::Refused(e),
-        Divided::Is(a) => ResponseRead::Is(Response {
-            tag: TpmSt(be16(s[0], s[1])),
-            rc: TpmRc(be32(s[6], s[7], s[8], s[9])),
-            handles: Span {
-                from: HEADER_SIZE,
-                to: a.handles,
-            },
-            auth: Span {
-                from: a.to,
-                to: s.len(),
-            },
-            parameters: Span {
-                from: a.from,
-                to: a.to,
-            },
-            entries: entries(false, s, a.to),
-        }),
-    }
+    let a = divide(rules, cc, s)?;
+    Ok(Response {
+        tag: tag_of(s),
+        rc: TpmRc(code_of(s)),
+        handles: Span {
+            from: HEADER_SIZE,
+            to: a.handles,
+        },
+        auth: Span {
+            from: a.to,
+            to: s.len(),
+        },
+        parameters: Span {
+            from: a.from,
+            to: a.to,
+        },
+        entries: entries(false, s, a.to),
+    })
 }
 
 // Code and entries of a passing response, for those who need no more.
-pub fn sessions(rules: Rules, cc: TpmCc, s: &[u8]) -> ResponseSessions
+pub fn sessions(rules: Rules, cc: TpmCc, s: &[u8]) -> Result<ResponseSessions, TpmError>
     ensures { said_response_sessions result ≡ signed s.now (read_response (book_of rules) cc.0 s.now) }
 {
-    match divide(rules, cc, s) {
-        Divided::Refused(e) => ResponseSessions::Refused(e),
-        Divided::Is(a) => {
-            let to = a.to;
-            ResponseSessions::Is {
-                rc: TpmRc(be32(s[6], s[7], s[8], s[9])),
-                entries: entries(false, s, to),
-            }
-        }
-    }
+    let a = divide(rules, cc, s)?;
+    let to = a.to;
+    Ok(ResponseSessions {
+        rc: TpmRc(code_of(s)),
+        entries: entries(false, s, to),
+    })
 }

@@ -1,28 +1,24 @@
 // The walk over the entries of an authorization area, one for commands and responses.
 ghost use Rattle.std.specs.Prelude.{◌≡◌, ℕ, ◌≤◌};
-ghost use Rattle.base.specs.Answer.{said_count, said_number16, said_outcome};
+ghost use Rattle.base.specs.Answer.{said};
 ghost use Rattle.base.specs.Said.{done, gives, within};
 ghost use Rattle.frame.specs.Answer.{behind_of, entries_by_value, handle_width};
 ghost use Rattle.frame.specs.Rules.{unlimited};
 ghost use Rattle.frame.specs.Walk.{read_entry, read_signed, read_tpm2b, walk};
 
 use crate::session::{Entries, Field, MAX_SESSIONS, Session};
-use base::answer::{Count, Number16, Number32, Outcome};
 use base::error::{Area, TpmError};
 use base::field::{be16, be32, read_u16, read_u32};
 
 // The size of the TPM2B at a place, which is within the limit. A long or a short one is refused at its length field, and of a short one the
 // length counts.
-fn tpm2b(limit: usize, s: &[u8], place: usize) -> Number16
-    ensures result_value { said_number16 result ≡ read_tpm2b limit s.now place }
-    ensures within { (size : ℕ) → said_number16 result ≡ gives size → size ≤ limit }
+fn tpm2b(limit: usize, s: &[u8], place: usize) -> Result<u16, TpmError>
+    ensures result_value { said result ≡ read_tpm2b limit s.now place }
+    ensures within { (size : ℕ) → said result ≡ gives size → size ≤ limit }
 {
-    let read = read_u16(Area::Authorization, s, place);
-    let Number16::Is(size) = read else {
-        return read;
-    };
+    let size = read_u16(Area::Authorization, s, place)?;
     if limit < size as usize {
-        return Number16::Refused(TpmError::TooManyBytes {
+        return Err(TpmError::TooManyBytes {
             area: Area::Authorization,
             offset: place,
             limit,
@@ -32,78 +28,65 @@ fn tpm2b(limit: usize, s: &[u8], place: usize) -> Number16
     let needed = 2 + size as usize;
     let left = s.len() - place;
     if left < needed {
-        return Number16::Refused(TpmError::UnexpectedEnd {
+        return Err(TpmError::UnexpectedEnd {
             area: Area::Authorization,
             offset: place,
             needed,
             available: left,
         });
     }
-    Number16::Is(size)
+    Ok(size)
 }
 
 // The place behind what every entry has: nonce, attribute byte and HMAC.
-fn behind_signed(limit: usize, s: &[u8], place: usize) -> Count
-    ensures { said_count result ≡ behind_of (read_signed limit 0 s.now place) }
+fn behind_signed(limit: usize, s: &[u8], place: usize) -> Result<usize, TpmError>
+    ensures { said result ≡ behind_of (read_signed limit 0 s.now place) }
 {
-    match tpm2b(limit, s, place) {
-        Number16::Refused(e) => Count::Refused(e),
-        Number16::Is(nonce) => {
-            let at = place + 2 + nonce as usize;
-            if s.len() <= at {
-                return Count::Refused(TpmError::UnexpectedEnd {
-                    area: Area::Authorization,
-                    offset: at,
-                    needed: 1,
-                    available: 0,
-                });
-            }
-            match tpm2b(limit, s, at + 1) {
-                Number16::Refused(e) => Count::Refused(e),
-                Number16::Is(hmac) => Count::Is(at + 3 + hmac as usize),
-            }
-        }
+    let nonce = tpm2b(limit, s, place)?;
+    let at = place + 2 + nonce as usize;
+    if s.len() <= at {
+        return Err(TpmError::UnexpectedEnd {
+            area: Area::Authorization,
+            offset: at,
+            needed: 1,
+            available: 0,
+        });
     }
+    let hmac = tpm2b(limit, s, at + 1)?;
+    Ok(at + 3 + hmac as usize)
 }
 
 // The place behind an entry, with a handle before it in a command.
-fn behind_entry(limit: usize, command: bool, s: &[u8], place: usize) -> Count
-    ensures { said_count result ≡ behind_of (read_entry limit (handle_width command) s.now place) }
+fn behind_entry(limit: usize, command: bool, s: &[u8], place: usize) -> Result<usize, TpmError>
+    ensures { said result ≡ behind_of (read_entry limit (handle_width command) s.now place) }
 {
     if command {
-        match read_u32(Area::Authorization, s, place) {
-            Number32::Refused(e) => Count::Refused(e),
-            Number32::Is(_) => behind_signed(limit, s, place + 4),
-        }
+        read_u32(Area::Authorization, s, place)?;
+        behind_signed(limit, s, place + 4)
     } else {
         behind_signed(limit, s, place)
     }
 }
 
 // Whether what stands from a place of s to its end is entries, with nonces and HMACs of at most so many bytes.
-pub(crate) fn walk(limit: usize, command: bool, s: &[u8], place: usize) -> Outcome
-    ensures { said_outcome result ≡ done (walk limit 3 (handle_width command) s.now place) }
+pub(crate) fn walk(limit: usize, command: bool, s: &[u8], place: usize) -> Result<(), TpmError>
+    ensures { said result ≡ done (walk limit 3 (handle_width command) s.now place) }
 {
     let mut count = 0;
     let mut at = place;
     while at < s.len() {
         if count == MAX_SESSIONS {
-            return Outcome::Refused(TpmError::TooManyItems {
+            return Err(TpmError::TooManyItems {
                 area: Area::Authorization,
                 offset: at,
                 limit: MAX_SESSIONS,
                 actual: MAX_SESSIONS + 1,
             });
         }
-        match behind_entry(limit, command, s, at) {
-            Count::Refused(e) => return Outcome::Refused(e),
-            Count::Is(end) => {
-                at = end;
-                count += 1;
-            }
-        }
+        at = behind_entry(limit, command, s, at)?;
+        count += 1;
     }
-    Outcome::Done
+    Ok(())
 }
 
 // ---- what was walked over, read without a check: by any limit it is the same

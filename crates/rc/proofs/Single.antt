@@ -3,10 +3,7 @@
 use mathlib.Core.Path.{◌≡◌, refl, sym, ◌∙◌, ap}
 use Rattle.base.specs.Single.{Single}
 use Rattle.base.proofs.Refusals.{named_numbered}
-use Rattle.base.proofs.Answers.{injective_by, unsaid}
-use Rattle.rc.specs.declared.code.Answer.{Answer}
-use Rattle.rc.specs.declared.code.Answer.TheVariants as answer
-use Rattle.rc.specs.Code.{said_code}
+use Rattle.base.proofs.Answers.{said_injective}
 use Rattle.rc.proofs.known.base_known.Kinds as base-known-kinds
 use Rattle.rc.proofs.known.base_known.Reads as base-known-reads
 use Rattle.rc.proofs.code.read.Kinds as read-kinds
@@ -24,18 +21,11 @@ use Rattle.rc.proofs.code.Code.index.Reads as index_Reads
 use Rattle.rc.proofs.code.Code.base.Kinds as base-kinds
 use Rattle.rc.proofs.code.Code.base.Reads as base-reads
 
-told : (a : Answer) → unsaid answer.Code answer.Refused (said_code a) ≡ a
-told (answer.Code c) = refl
-told (answer.Refused e) = ap answer.Refused (named_numbered e)
-
-pub said_code_injective : (a b : Answer) → said_code a ≡ said_code b → a ≡ b
-said_code_injective = injective_by said_code (unsaid answer.Code answer.Refused) told
-
 base_known : Single 0 base-known-kinds.ps base-known-kinds.r base-known-reads.Post
 base_known κs a x y v w p q = (p ∙ sym q, refl)
 
 read : Single 0 read-kinds.ps read-kinds.r read-reads.Post
-read κs a x y v w p q = (said_code_injective x y (p ∙ sym q), refl)
+read κs a x y v w p q = (said_injective x y (p ∙ sym q), refl)
 
 value : Single 0 value-kinds.ps value-kinds.r value-reads.Post
 value κs a x y v w p q = (p ∙ sym q, refl)

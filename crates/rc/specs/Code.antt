@@ -9,8 +9,6 @@ use Rattle.rc.specs.declared.code.Code.{Code}
 use Rattle.rc.specs.declared.code.Code.TheVariants.{Fmt0, Warn, Fmt1, Parameter, Handle, Session}
 use Rattle.rc.specs.declared.code.Kind.{Kind}
 use Rattle.rc.specs.declared.code.Kind.TheVariants as k
-use Rattle.rc.specs.declared.code.Answer.{Answer}
-use Rattle.rc.specs.declared.code.Answer.TheVariants as r
 use Rattle.rc.specs.Known.{is_known}
 
 -- bit k of a value, told by 2 ^ k
@@ -95,6 +93,3 @@ of_parts k.Parameter b n = Parameter (base b) n
 of_parts k.Handle b n = Handle (base b) n
 of_parts k.Session b n = Session (base b) n
 
-abbrev pub said_code : Answer → Said Code
-said_code (r.Code c) = gives c
-said_code (r.Refused e) = refuses (numbered e)

@@ -1,6 +1,7 @@
 // A response code taken apart, and put together again.
 ghost use Rattle.std.specs.Prelude.{◌≡◌, ◌&&◌, ◌*◌, ◌%◌};
-ghost use Rattle.rc.specs.Code.{base_of, bit, index_of, kind_number, kind_of, of_parts, read_code, read_fmt1, said_code, value_of};
+ghost use Rattle.base.specs.Answer.{said};
+ghost use Rattle.rc.specs.Code.{base_of, bit, index_of, kind_number, kind_of, of_parts, read_code, read_fmt1, value_of};
 
 use crate::known::base_known;
 use base::code::TpmRc;
@@ -33,27 +34,21 @@ pub enum Kind {
     Session,
 }
 
-#[derive(Clone, Copy)]
-pub enum Answer {
-    Code(Code),
-    Refused(TpmError),
-}
-
 // What a response code says. Bit 7 tells the format, and so it is looked at before the warning's bits.
-pub fn read(rc: TpmRc) -> Answer
-    ensures { said_code result ≡ read_code rc.0 }
+pub fn read(rc: TpmRc) -> Result<Code, TpmError>
+    ensures { said result ≡ read_code rc.0 }
 {
     let value = rc.0;
     if is_fmt1(value) {
         return read_fmt1(rc);
     }
     if !base_known(value) {
-        return Answer::Refused(rc.refused(Area::None, 0));
+        return Err(rc.refused(Area::None, 0));
     }
     if is_warning(value) {
-        Answer::Code(Code::Warn(TpmRcBase(value)))
+        Ok(Code::Warn(TpmRcBase(value)))
     } else {
-        Answer::Code(Code::Fmt0(TpmRcBase(value)))
+        Ok(Code::Fmt0(TpmRcBase(value)))
     }
 }
 
@@ -72,31 +67,31 @@ fn is_warning(value: u32) -> bool
 }
 
 // The same of a code whose bit 7 is set: bits 0 to 5 are the base's, bit 6 is P, bits 8 to 11 are N.
-fn read_fmt1(rc: TpmRc) -> Answer
-    ensures { said_code result ≡ read_fmt1 rc.0 }
+fn read_fmt1(rc: TpmRc) -> Result<Code, TpmError>
+    ensures { said result ≡ read_fmt1 rc.0 }
 {
     let value = rc.0;
     if value >= 4096 {
-        return Answer::Refused(rc.refused(Area::None, 0));
+        return Err(rc.refused(Area::None, 0));
     }
     let base = 128 + value % 64;
     if !base_known(base) {
-        return Answer::Refused(rc.refused(Area::None, 0));
+        return Err(rc.refused(Area::None, 0));
     }
     let n = (value / 256 % 16) as u8;
     if value / 64 % 2 == 1 {
         if n == 0 {
-            return Answer::Refused(rc.refused(Area::None, 0));
+            return Err(rc.refused(Area::None, 0));
         }
-        return Answer::Code(Code::Parameter(TpmRcBase(base), n));
+        return Ok(Code::Parameter(TpmRcBase(base), n));
     }
     if n == 0 {
-        return Answer::Code(Code::Fmt1(TpmRcBase(base)));
+        return Ok(Code::Fmt1(TpmRcBase(base)));
     }
     if n < 8 {
-        return Answer::Code(Code::Handle(TpmRcBase(base), n));
+        return Ok(Code::Handle(TpmRcBase(base), n));
     }
-    Answer::Code(Code::Session(TpmRcBase(base), n - 8))
+    Ok(Code::Session(TpmRcBase(base), n - 8))
 }
 
 impl Code {

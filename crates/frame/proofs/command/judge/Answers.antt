@@ -3,25 +3,24 @@
 use mathlib.Core.Path.{◌∙◌}
 use Rattle.frame.specs.Header.{read_command_tag}
 use Rattle.frame.specs.Command.{command_handles, command_areas, judge_command}
-use Rattle.base.specs.Answer.{said_count, said_tag}
-use Rattle.base.proofs.Answers.{learnt}
+use Rattle.base.proofs.Answers.{passed_on}
 use Rattle.base.proofs.Checks.{goes_on, stops}
 use Rattle.frame.proofs.Divisions.{judged_sized}
 use Rattle.frame.proofs.command.judge.Goals as goal
 
-pub returns-in-Refused : goal.returns-in-Refused
+pub returns-in_err-tag : goal.returns-in_err-tag
 unfolding judge_command
-returns-in-Refused c = stops (read_command_tag c.args.s.now) _ (learnt said_tag c.in-Refused.is c.command_tag.ensures)
+returns-in_err-tag c = passed_on _ _ _ c.from_residual.ensures.1 ∙ stops (read_command_tag c.args.s.now) _ c.in_err-tag.ensures
 
-pub returns-in-Refused-handles_end : goal.returns-in-Refused-handles_end
+pub returns-in_err-handles : goal.returns-in_err-handles
 unfolding judge_command command_areas
-returns-in-Refused-handles_end c =
+returns-in_err-handles c =
     let s = c.args.s.now in
-    stops (command_handles _ s) _ (learnt said_count c.in-Refused-handles_end.is c.handles_end.ensures)
-    ∙ goes_on (read_command_tag s) _ (learnt said_tag c.in-Is.is c.command_tag.ensures)
+    passed_on _ _ _ c.from_residual-in_err-handles.ensures.1 ∙ stops (command_handles _ s) _ c.in_err-handles.ensures
+    ∙ goes_on (read_command_tag s) _ c.in_ok-tag.ensures
 
-pub returns-in-Is-handles_end : goal.returns-in-Is-handles_end
-returns-in-Is-handles_end c =
+pub returns : goal.returns
+returns c =
     let s = c.args.s.now in
     c.sized_area.ensures
-    ∙ judged_sized _ s (learnt said_tag c.in-Is.is c.command_tag.ensures) (learnt said_count c.in-Is-handles_end.is c.handles_end.ensures)
+    ∙ judged_sized _ s c.in_ok-tag.ensures c.in_ok-handles.ensures

@@ -3,7 +3,7 @@
 use mathlib.Core.Path.{ap, sym, ◌∙◌}
 use Rattle.base.specs.Said.{refuses}
 use Rattle.frame.specs.Header.{is_of_two, read_command_tag}
-use Rattle.frame.proofs.Headers.{short_header, tag_bytes, tag_read, tag_refused}
+use Rattle.frame.proofs.Headers.{short_header, tag_read, tag_refused}
 use Rattle.frame.proofs.header.command_tag.Goals as goal
 
 pub returns-then-s-lt-HEADER_SIZE : goal.returns-then-s-lt-HEADER_SIZE
@@ -15,11 +15,11 @@ unfolding read_command_tag
 returns-then-is_of_two c =
     let s = c.args.s.now in
     let ten = c.if-s-lt-HEADER_SIZE.false in
-    tag_read s _ is_of_two (c.be16.ensures ∙ tag_bytes s ten) ten (sym c.is_of_two.ensures ∙ c.if-is_of_two.true)
+    tag_read s _ is_of_two c.tag_of-tag.ensures ten (sym c.is_of_two.ensures ∙ c.if-is_of_two.true)
 
 pub returns-else-is_of_two : goal.returns-else-is_of_two
 unfolding read_command_tag
 returns-else-is_of_two c =
     let s = c.args.s.now in
     let ten = c.if-s-lt-HEADER_SIZE.false in
-    ap refuses c.refused.ensures ∙ tag_refused s _ is_of_two (c.be16.ensures ∙ tag_bytes s ten) ten (sym c.is_of_two.ensures ∙ c.if-is_of_two.false)
+    ap refuses c.refused.ensures ∙ tag_refused s _ is_of_two c.tag_of-tag.ensures ten (sym c.is_of_two.ensures ∙ c.if-is_of_two.false)

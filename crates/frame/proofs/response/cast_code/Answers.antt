@@ -3,15 +3,14 @@
 use mathlib.Core.Path.{◌∙◌}
 use Rattle.frame.specs.Header.{frame_whole}
 use Rattle.frame.specs.Response.{cast_response}
-use Rattle.base.specs.Answer.{said_count}
-use Rattle.base.proofs.Answers.{learnt}
+use Rattle.base.proofs.Answers.{passed_on}
 use Rattle.base.proofs.Checks.{goes_on, stops}
 use Rattle.frame.proofs.response.cast_code.Goals as goal
 
-pub returns-in-Refused : goal.returns-in-Refused
+pub returns-in_err-frame_whole : goal.returns-in_err-frame_whole
 unfolding cast_response
-returns-in-Refused c = stops (frame_whole c.args.s.now) _ (learnt said_count c.in-Refused.is c.frame_whole.ensures)
+returns-in_err-frame_whole c = passed_on _ _ _ c.from_residual.ensures.1 ∙ stops (frame_whole c.args.s.now) _ c.in_err-frame_whole.ensures
 
-pub returns-in-Is : goal.returns-in-Is
+pub returns : goal.returns
 unfolding cast_response
-returns-in-Is c = c.judge.ensures ∙ goes_on (frame_whole c.args.s.now) _ (learnt said_count c.in-Is.is c.frame_whole.ensures)
+returns c = c.judge.ensures ∙ goes_on (frame_whole c.args.s.now) _ c.in_ok-frame_whole.ensures

@@ -5,32 +5,31 @@ use lib.ListN.{take}
 use lib.Seq.{length-take-le}
 use Rattle.frame.specs.Header.{frame_prefix}
 use Rattle.frame.specs.Response.{judge_response, cast_response_prefix}
-use Rattle.base.specs.Answer.{said_count, said_response_code}
 use Rattle.base.specs.Parts.{up_to}
-use Rattle.base.proofs.Answers.{learnt}
+use Rattle.base.proofs.Answers.{passed_on}
 use Rattle.base.proofs.Checks.{goes_on, stops}
 use Rattle.frame.proofs.Headers.{prefix_fits}
 use Rattle.frame.proofs.response.cast_prefix_range.Goals as goal
 
 pub slice_bounds-judge-end : goal.slice_bounds-judge-end
-slice_bounds-judge-end c = sym (length-take-le _ _ (prefix_fits c.args.s.now (learnt said_count c.in-Is.is c.frame_prefix.ensures)).2)
+slice_bounds-judge-end c = sym (length-take-le _ _ (prefix_fits c.args.s.now c.in_ok-to.ensures).2)
 
-pub returns-in-Refused : goal.returns-in-Refused
+pub returns-in_err-to : goal.returns-in_err-to
 unfolding cast_response_prefix
-returns-in-Refused c = ap up_to (stops (frame_prefix c.args.s.now) _ (learnt said_count c.in-Refused.is c.frame_prefix.ensures))
+returns-in_err-to c = passed_on _ _ _ c.from_residual.ensures.1 ∙ ap up_to (stops (frame_prefix c.args.s.now) _ c.in_err-to.ensures)
 
-pub returns-in-Refused-judge : goal.returns-in-Refused-judge
+pub returns-in_err-judge : goal.returns-in_err-judge
 unfolding cast_response_prefix
-returns-in-Refused-judge c =
+returns-in_err-judge c =
+    let s = c.args.s.now in
+    passed_on _ _ _ c.from_residual-in_err-judge.ensures.1 ∙ ap up_to
+    (stops (judge_response _ (take c.in_ok-to.to s)) _ c.in_err-judge.ensures
+    ∙ goes_on (frame_prefix s) _ c.in_ok-to.ensures)
+
+pub returns : goal.returns
+unfolding cast_response_prefix
+returns c =
     let s = c.args.s.now in
     ap up_to
-    (stops (judge_response _ (take c.in-Is.n s)) _ (learnt said_response_code c.in-Refused-judge.is c.judge.ensures)
-    ∙ goes_on (frame_prefix s) _ (learnt said_count c.in-Is.is c.frame_prefix.ensures))
-
-pub returns-in-Is-judge : goal.returns-in-Is-judge
-unfolding cast_response_prefix
-returns-in-Is-judge c =
-    let s = c.args.s.now in
-    ap up_to
-    (goes_on (judge_response _ (take c.in-Is.n s)) _ (learnt said_response_code c.in-Is-judge.is c.judge.ensures)
-    ∙ goes_on (frame_prefix s) _ (learnt said_count c.in-Is.is c.frame_prefix.ensures))
+    (goes_on (judge_response _ (take c.in_ok-to.to s)) _ c.in_ok-judge.ensures
+    ∙ goes_on (frame_prefix s) _ c.in_ok-to.ensures)

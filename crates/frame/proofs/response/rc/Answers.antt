@@ -4,7 +4,7 @@ use mathlib.Core.Path.{ap, sym, ◌∙◌}
 use Rattle.base.specs.Said.{refuses}
 use Rattle.frame.specs.Header.{read_rc}
 use Rattle.frame.specs.Rules.{book_of}
-use Rattle.frame.proofs.Headers.{short_header, tag_bytes, code_bytes, rc_read, rc_refused}
+use Rattle.frame.proofs.Headers.{short_header, rc_read, rc_refused}
 use Rattle.frame.proofs.response.rc.Goals as goal
 
 pub returns-then-s-lt-HEADER_SIZE : goal.returns-then-s-lt-HEADER_SIZE
@@ -15,7 +15,7 @@ pub returns-then-reads : goal.returns-then-reads
 returns-then-reads c =
     let s = c.args.s.now in
     let ten = c.if-s-lt-HEADER_SIZE.false in
-    rc_read s _ (book_of c.args.rules) _ (c.be32.ensures ∙ code_bytes s ten) (c.be16.ensures ∙ tag_bytes s ten) ten
+    rc_read s _ (book_of c.args.rules) _ c.code_of.ensures c.tag_of.ensures ten
     (sym c.reads.ensures ∙ c.if-reads.true)
 
 pub returns-else-reads : goal.returns-else-reads
@@ -23,5 +23,5 @@ returns-else-reads c =
     let s = c.args.s.now in
     let ten = c.if-s-lt-HEADER_SIZE.false in
     ap refuses c.refused.ensures
-    ∙ rc_refused s _ (book_of c.args.rules) _ (c.be32.ensures ∙ code_bytes s ten) (c.be16.ensures ∙ tag_bytes s ten) ten
+    ∙ rc_refused s _ (book_of c.args.rules) _ c.code_of.ensures c.tag_of.ensures ten
     (sym c.reads.ensures ∙ c.if-reads.false)
