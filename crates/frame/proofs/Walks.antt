@@ -255,9 +255,6 @@ pub none_counted : (limit width : ℕ) (s : List ℕ) (place : ℕ) → Counted 
 none_counted limit width s place = record { more = 3; of_three = refl; rest = refl }
 
 module _ {limit width : ℕ} {s : List ℕ} {place count at : ℕ} (f : Counted limit width s place count at) where
-  pub one_to_come : (count ≡ 3 → ⊥) → count < 3
-  one_to_come room = let three = f.of_three in omega arith
-
   -- what the rest refuses, the walk does
   rest_refused : {why : Why} → refuses why ≡ walk limit f.more width s at → refuses why ≡ done (walk limit 3 width s place)
   rest_refused r = ap done r ∙ sym f.rest
@@ -272,12 +269,9 @@ module _ {limit width : ℕ} {s : List ℕ} {place count at : ℕ} (f : Counted 
         let none : f.more ≡ 0 = omega arith in
         rest_refused (rw none (walk_full limit width s at inside))
 
-    module _ (room : count ≡ 3 → ⊥) where
+    module _ (room : count < 3) where
       one_more : f.more ≡ suc (f.more - 1)
-      one_more =
-          let few = one_to_come room in
-          let three = f.of_three in
-          omega arith
+      one_more = let three = f.of_three in omega arith
 
       pub entry_refused : {why : Why} → refuses why ≡ behind_of (read_entry limit width s at) → refuses why ≡ done (walk limit 3 width s place)
       entry_refused read =

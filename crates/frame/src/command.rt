@@ -52,8 +52,7 @@ pub fn cc(rules: Rules, s: &[u8]) -> Result<TpmCc, TpmError>
         return Err(short(s.len()));
     }
     let cc = TpmCc(code_of(s));
-    let revision = rules.revision;
-    if cc_known(revision, cc) {
+    if cc_known(rules.revision, cc) {
         Ok(cc)
     } else {
         Err(cc.refused(Area::Header, 6))
@@ -68,8 +67,7 @@ pub fn set_cc(rules: Rules, s: &mut [u8], cc: TpmCc) -> Result<(), TpmError>
     if s.len() < HEADER_SIZE {
         return Err(short(s.len()));
     }
-    let revision = rules.revision;
-    let Ok(_) = find(revision, cc) else {
+    let Ok(_) = find(rules.revision, cc) else {
         return Err(cc.refused(Area::Header, 0));
     };
     write_u32(s, 6, cc.0)
@@ -85,8 +83,7 @@ fn handles_end(rules: Rules, s: &[u8]) -> Result<usize, TpmError>
         return Err(short(s.len()));
     }
     let cc = TpmCc(code_of(s));
-    let revision = rules.revision;
-    match find(revision, cc) {
+    match find(rules.revision, cc) {
         Ok(row) => handle_area(row.handles, s),
         Err(_) => Err(cc.refused(Area::Header, 6)),
     }

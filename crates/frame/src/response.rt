@@ -247,9 +247,8 @@ fn error_areas(rules: Rules, s: &[u8]) -> Result<Areas, TpmError>
 fn areas(rules: Rules, cc: TpmCc, s: &[u8]) -> Result<Areas, TpmError>
     ensures { said result ≡ response_areas (book_of rules) cc.0 s.now }
 {
-    let revision = rules.revision;
     let code = cast_code(rules, s)?;
-    let Ok(row) = find(revision, cc) else {
+    let Ok(row) = find(rules.revision, cc) else {
         return Err(cc.refused(Area::Header, 0));
     };
     if code.0 == 0 {

@@ -22,8 +22,7 @@ pub struct Rules {
 pub(crate) fn knows_bad_tag(rules: Rules) -> bool
     ensures { result ≡ (book_of rules).answers_bad_tag }
 {
-    let reading = rules.reading;
-    match reading {
+    match rules.reading {
         Reading::Rust => false,
         Reading::Standard => true,
     }
@@ -33,8 +32,7 @@ pub(crate) fn knows_bad_tag(rules: Rules) -> bool
 pub fn longest(rules: Rules) -> usize
     ensures { result ≡ (book_of rules).longest }
 {
-    let reading = rules.reading;
-    match reading {
+    match rules.reading {
         Reading::Rust => 65535,
         Reading::Standard => 64,
     }

@@ -72,19 +72,20 @@ fn behind_entry(limit: usize, command: bool, s: &[u8], place: usize) -> Result<u
 pub(crate) fn walk(limit: usize, command: bool, s: &[u8], place: usize) -> Result<(), TpmError>
     ensures { said result ≡ done (walk limit 3 (handle_width command) s.now place) }
 {
-    let mut count = 0;
     let mut at = place;
-    while at < s.len() {
-        if count == MAX_SESSIONS {
-            return Err(TpmError::TooManyItems {
-                area: Area::Authorization,
-                offset: at,
-                limit: MAX_SESSIONS,
-                actual: MAX_SESSIONS + 1,
-            });
+    for _ in 0..MAX_SESSIONS {
+        if s.len() <= at {
+            return Ok(());
         }
         at = behind_entry(limit, command, s, at)?;
-        count += 1;
+    }
+    if at < s.len() {
+        return Err(TpmError::TooManyItems {
+            area: Area::Authorization,
+            offset: at,
+            limit: MAX_SESSIONS,
+            actual: MAX_SESSIONS + 1,
+        });
     }
     Ok(())
 }
