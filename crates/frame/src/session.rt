@@ -1,13 +1,13 @@
 // An entry of an authorization area by value: its nonce and its HMAC are told by where they stand.
 ghost use Rattle.std.specs.Prelude.{◌≡◌, []};
-ghost use Rattle.frame.specs.Walk.{by_value, none};
+ghost use Rattle.frame.specs.Walk.{by_value};
 
 // The most entries that an area has (Part 2, MAX_SESSION_NUM).
 pub const MAX_SESSIONS: usize = 3;
 
 // Bytes by their place and their count.
 #[repr(C)]
-#[derive(Clone, Copy)]
+#[derive(Clone, Copy, Default)]
 pub struct Field {
     pub at: usize,
     pub size: u16,
@@ -15,7 +15,7 @@ pub struct Field {
 
 // An entry of a command; an entry of a response has no handle, and 0 stands there.
 #[repr(C)]
-#[derive(Clone, Copy)]
+#[derive(Clone, Copy, Default)]
 pub struct Session {
     pub handle: u32,
     pub nonce: Field,
@@ -23,22 +23,9 @@ pub struct Session {
     pub hmac: Field,
 }
 
-impl Session {
-    fn none() -> Self
-        ensures { result ≡ none }
-    {
-        Session {
-            handle: 0,
-            nonce: Field { at: 0, size: 0 },
-            attributes: 0,
-            hmac: Field { at: 0, size: 0 },
-        }
-    }
-}
-
 // How many entries an area has, and the first three.
 #[repr(C)]
-#[derive(Clone, Copy)]
+#[derive(Clone, Copy, Default)]
 pub struct Entries {
     pub count: usize,
     pub first: Session,
@@ -50,11 +37,6 @@ impl Entries {
     pub fn new() -> Self
         ensures { result ≡ by_value [] }
     {
-        Entries {
-            count: 0,
-            first: Session::none(),
-            second: Session::none(),
-            third: Session::none(),
-        }
+        Entries::default()
     }
 }
