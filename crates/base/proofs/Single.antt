@@ -14,6 +14,8 @@ use Rattle.base.proofs.code.TpmRc.refused.Kinds as TpmRc-refused-kinds
 use Rattle.base.proofs.code.TpmRc.refused.Reads as TpmRc-refused-reads
 use Rattle.base.proofs.error.Area.number.Kinds as area-number-kinds
 use Rattle.base.proofs.error.Area.number.Reads as area-number-reads
+use Rattle.base.proofs.error.WriteErrorFromTpmError.from.Kinds as write-error-from-kinds
+use Rattle.base.proofs.error.WriteErrorFromTpmError.from.Reads as write-error-from-reads
 use Rattle.base.proofs.field.left.Kinds as left-kinds
 use Rattle.base.proofs.field.left.Reads as left-reads
 use Rattle.base.proofs.field.be16.Kinds as be16-kinds
@@ -48,6 +50,9 @@ TpmRc-refused κs a x y v w p q = (numbered_injective x y (p ∙ sym q), refl)
 
 area_number_lem : Single 0 area-number-kinds.ps area-number-kinds.r area-number-reads.Post
 area_number_lem κs a x y v w p q = (p ∙ sym q, refl)
+
+write_error_from : Single 0 write-error-from-kinds.ps write-error-from-kinds.r write-error-from-reads.Post
+write_error_from κs a x y v w p q = (p ∙ sym q, refl)
 
 left : Single 0 left-kinds.ps left-kinds.r left-reads.Post
 left κs a x y v w p q = (p ∙ sym q, refl)
