@@ -6,7 +6,7 @@ use Prim.Native.Nat.{ℕ, zero, suc, ◌+◌, ◌-◌, ◌≤◌}
 use native.Mathlib.Nat.{le_of_eq}
 use native.Mathlib.Omega.{arith}
 use lib.ListN.{length, get_or, take, drop, length-drop}
-use lib.Seq.{drop-cons, sets, sets-eq, take_all, take-length, paste}
+use lib.Seq.{drop-cons, sets, sets-eq, take_all}
 
 -- the w elements from a place on, one by one
 abbrev pub span : List ℕ → ℕ → ℕ → List ℕ
@@ -26,9 +26,3 @@ stored s place v h k = sets-eq v s place (omega arith) ∙ append_assoc (take pl
 -- all that stands from a place on
 pub take_rest : (n : ℕ) (s : List ℕ) → take (length s - n) (drop n s) ≡ drop n s
 take_rest n s = take_all (length s - n) (drop n s) (le_of_eq (length-drop n s))
-
--- a copy of all of a list, as what is before it, the list, and what is behind it
-pub pasted : (s : List ℕ) (place : ℕ) (t : List ℕ) → paste s place t (length t) ≡ take place s ++ (t ++ drop (place + length t) s)
-pasted s place t =
-    append_assoc (take place s) (take (length t) t) (drop (place + length t) s)
-    ∙ ap (λ (u : List ℕ). take place s ++ (u ++ drop (place + length t) s)) (take-length t)

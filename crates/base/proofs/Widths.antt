@@ -1,16 +1,16 @@
 -- What every width of field shares: each law is over the width w, and the proofs of the functions cite it.
 -- Assumes nothing.
-use mathlib.Core.Path.{◌≡◌, refl, sym, ◌∙◌, ap, subst}
+use mathlib.Core.Path.{◌≡◌, refl, sym, ◌∙◌, ap}
 use mathlib.Core.List.{List, [], ◌∷◌}
 use Prim.Native.Nat.{ℕ, ◌+◌, ◌-◌, ◌≤◌, ◌<◌}
 use native.Mathlib.Omega.{arith}
-use borrow.Author.Tests.{le-leb, lt-leb}
-use lib.Dec.{T as Holds, leb, leb→le}
+use borrow.Author.Tests.{le-leb, leb-true, lt-leb}
+use lib.Dec.{leb}
 use lib.ListN.{length, take, drop}
 use lib.Seq.{take_at}
 use Rattle.base.specs.declared.error.Area.{Area}
 use Rattle.base.specs.Bytes.{number, bytes}
-use Rattle.base.specs.Said.{in_area, no_area, gives, refuses, within, done, after}
+use Rattle.base.specs.Said.{in_area, gives, refuses, within}
 use Rattle.base.specs.Field.{read_bytes, read_field, write_field, laid, write_bytes}
 use Rattle.base.proofs.Bytes.{length_bytes}
 use Rattle.base.proofs.Checks.{gives_injective, needs_gives, within_gives}
@@ -28,31 +28,12 @@ module _ (w place : ℕ) (s : List ℕ) where
       → gives t ≡ within area (read_bytes w place s) → gives n ≡ within area (read_field w place s)
   read_number area t n e p =
       let read = needs_gives (leb w (length s - place)) _ (gives (take w (drop place s))) (within_gives area (read_bytes w place s) (sym p)) in
-      let there : w ≤ length s - place = leb→le w (length s - place) (subst Holds (sym read.0) tt) in
+      let there : w ≤ length s - place = leb-true w (length s - place) read.0 in
       let is : t ≡ span s place w = sym (gives_injective read.1) ∙ take_drop_span w place s there in
       ap gives (e is) ∙ read_whole area there
 
   pub write_number : (n : ℕ) (t : List ℕ) → t ≡ bytes w n → write_bytes place t s ≡ write_field w place n s
   write_number n t e = ap (λ (u : List ℕ). write_bytes place u s) e ∙ rw length_bytes refl
-
--- ---- bytes
-
-module _ (place : ℕ) (t s : List ℕ) where
-  pub bytes_short : (left : ℕ) → left ≡ length s - place → left < length t
-      → (refuses (no_area (9 ∷ place ∷ length t ∷ left ∷ [])) ≡ done (write_bytes place t s)) × (s ≡ after s (write_bytes place t s))
-  bytes_short left e h = (
-    simp (lt-leb (length t) (length s - place) (omega arith)) (ap (λ (k : ℕ). refuses (no_area (9 ∷ place ∷ length t ∷ k ∷ []))) e),
-    simp (lt-leb (length t) (length s - place) (omega arith)),
-  )
-
-  module _ (later : List ℕ) (e : later ≡ laid place t s) (h : length t ≤ length s - place) where
-    pub bytes_whole : (gives tt ≡ done (write_bytes place t s)) × (later ≡ after s (write_bytes place t s))
-    bytes_whole = (simp (le-leb (length t) (length s - place) h), simp (le-leb (length t) (length s - place) h) e)
-
-  -- where there is room for them, they are put there
-  pub bytes_put : {later : List ℕ} → length t ≤ length s - place → later ≡ after s (write_bytes place t s)
-      → later ≡ laid place t s
-  bytes_put h e = rw (le-leb (length t) (length s - place) h) at e
 
 -- bytes that were put at the start of others are found there
 pub through : (t s : List ℕ) {later : List ℕ} → later ≡ laid 0 t s → take (length t) later ≡ t
