@@ -15,14 +15,13 @@ use Rattle.base.specs.Bytes.{AreBytes}
 use Rattle.base.specs.Parts.{up_to, behind, part_in}
 use Rattle.base.specs.Said.{Said, gives}
 use Rattle.base.specs.Tpm2b.{tpm2b}
-use Rattle.base.proofs.Bytes.{number_lt, are_bytes_take}
 use Rattle.base.proofs.Checks.{needs_gives, then_gives, gives_injective}
 use Rattle.base.proofs.Parts.{part_behind}
 use Rattle.base.proofs.Tpm2b.{length_tpm2b, tpm2b_size, tpm2b_data, tpm2b_rest, tpm2b_again}
 use Rattle.buffer.specs.Fixed.{Buffer, held, wire, put, new, over, grown, extended, marshalled, unmarshalled, equal, same_bytes}
-use Rattle.buffer.specs.View.{size_of, read_size, prefix, whole}
+use Rattle.buffer.specs.View.{read_size, prefix, whole}
 use Rattle.buffer.proofs.Rooms.{emitted_gives, length_held, bytes_same, equal_read, grown_size, read_done}
-use Rattle.buffer.proofs.Views.{size_is, prefix_read, prefix_fits, prefix_is, whole_read, whole_fits}
+use Rattle.buffer.proofs.Views.{size_is, prefix_read, prefix_fits, prefix_is, prefix_size, whole_read, whole_fits}
 
 -- ---- the view
 
@@ -42,9 +41,7 @@ module _ (capacity : ℕ) (s : List ℕ) (p : AreBytes s) where
   divided n e =
       let fits = prefix_fits capacity s (sym e) in
       let is = prefix_is capacity s (sym e) in
-      let two = number_lt (take 2 s) (are_bytes_take 2 s p) in
-      let few : length (take 2 s) ≡ 2 = length-take-le 2 s (omega arith) in
-      let small : size_of s < 65536 = rw few at two in
+      let small = prefix_size capacity s p (sym e) in
       let there : n - 2 ≤ length (drop 2 s) = rw length-drop (omega arith) in
       let long : length (take (n - 2) (drop 2 s)) ≡ n - 2 = length-take-le (n - 2) (drop 2 s) there in
       let all : 2 + (n - 2) ≡ n = omega arith in

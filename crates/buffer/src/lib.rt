@@ -2,7 +2,5 @@
 // fixed capacity.
 #![tactic(auto)]
 
-pub mod fixed1024;
-pub mod fixed64;
-mod room;
+pub mod fixed;
 pub mod view;

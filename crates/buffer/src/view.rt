@@ -2,123 +2,102 @@
 // why; the part read of the same name is then empty.
 ghost use Rattle.std.specs.Prelude.{◌≡◌, length};
 ghost use Rattle.std.specs.Borrow.{sem};
-ghost use Rattle.base.specs.Answer.{said_count, said_flag, said_outcome, said_range};
+ghost use Rattle.base.specs.Answer.{said, said_range};
 ghost use Rattle.base.specs.Parts.{IsPart, IsPartMut, LendsPart, behind, up_to};
 ghost use Rattle.base.specs.Said.{done};
 ghost use Rattle.buffer.specs.View.{data_range, is_empty, prefix, read_size, whole};
 
-use base::answer::{Count, Flag, Outcome, Range};
 use base::error::{Area, TpmError};
-use base::field::be16;
-use base::part::{behind, part, part_mut};
+use base::field::read_u16;
+use base::part::{Span, behind, part, part_mut};
 
 // The size field, not judged.
-pub fn size(s: &[u8]) -> Count
-    ensures { said_count result ≡ read_size s.now }
+#[tactic(auto, using(crate::proofs::Views::size_field))]
+pub fn size(s: &[u8]) -> Result<usize, TpmError>
+    ensures { said result ≡ read_size s.now }
 {
-    if s.len() < 2 {
-        return Count::Refused(TpmError::UnexpectedEnd {
-            area: Area::None,
-            offset: 0,
-            needed: 2,
-            available: s.len(),
-        });
-    }
-    Count::Is(be16(s[0], s[1]) as usize)
+    Ok(read_u16(Area::None, s, 0)? as usize)
 }
 
 // How many bytes the TPM2B at the start of s takes.
-pub fn validate_prefix(capacity: usize, s: &[u8]) -> Count
-    ensures { said_count result ≡ prefix capacity s.now }
+#[tactic(auto, using(crate::proofs::Views::sized), unfolding(crate::specs::View::prefix))]
+pub fn validate_prefix(capacity: usize, s: &[u8]) -> Result<usize, TpmError>
+    ensures { said result ≡ prefix capacity s.now }
 {
-    let read = size(s);
-    let Count::Is(size) = read else {
-        return read;
-    };
+    let size = size(s)?;
     if capacity < size {
-        return Count::Refused(TpmError::TooManyBytes {
+        return Err(TpmError::TooManyBytes {
             area: Area::None,
             offset: 0,
             limit: capacity,
             actual: size,
         });
     }
-    if s.len() - 2 < size {
-        return Count::Refused(TpmError::UnexpectedEnd {
+    let there = s.len() - 2;
+    if there < size {
+        return Err(TpmError::UnexpectedEnd {
             area: Area::None,
             offset: 2,
             needed: size,
-            available: s.len() - 2,
+            available: there,
         });
     }
-    Count::Is(2 + size)
+    Ok(2 + size)
 }
 
 // Whether s is a TPM2B and nothing else.
-pub fn validate(capacity: usize, s: &[u8]) -> Outcome
-    ensures { said_outcome result ≡ done (whole capacity s.now) }
+#[tactic(auto, unfolding(crate::specs::View::whole))]
+pub fn validate(capacity: usize, s: &[u8]) -> Result<(), TpmError>
+    ensures { said result ≡ done (whole capacity s.now) }
 {
-    let read = validate_prefix(capacity, s);
-    match read {
-        Count::Refused(e) => Outcome::Refused(e),
-        Count::Is(n) => {
-            if n < s.len() {
-                Outcome::Refused(TpmError::TrailingData {
-                    area: Area::None,
-                    offset: n,
-                    actual: s.len() - n,
-                })
-            } else {
-                Outcome::Done
-            }
-        }
+    let n = validate_prefix(capacity, s)?;
+    if n < s.len() {
+        return Err(TpmError::TrailingData {
+            area: Area::None,
+            offset: n,
+            actual: s.len() - n,
+        });
     }
+    Ok(())
 }
 
 // The view of s whole, by its start and its end.
-pub fn cast_range(capacity: usize, s: &[u8]) -> Range
+#[tactic(auto, using(crate::proofs::Views::whole_range))]
+pub fn cast_range(capacity: usize, s: &[u8]) -> Result<Span, TpmError>
     ensures { said_range result ≡ up_to (whole capacity s.now) }
 {
-    let read = validate(capacity, s);
-    match read {
-        Outcome::Done => Range::Is {
-            from: 0,
-            to: s.len(),
-        },
-        Outcome::Refused(e) => Range::Refused(e),
-    }
+    validate(capacity, s)?;
+    Ok(Span {
+        from: 0,
+        to: s.len(),
+    })
 }
 
 // The view of the TPM2B at the start of s.
-pub fn cast_prefix_range(capacity: usize, s: &[u8]) -> Range
+pub fn cast_prefix_range(capacity: usize, s: &[u8]) -> Result<Span, TpmError>
     ensures { said_range result ≡ up_to (prefix capacity s.now) }
 {
-    let read = validate_prefix(capacity, s);
-    match read {
-        Count::Is(n) => Range::Is { from: 0, to: n },
-        Count::Refused(e) => Range::Refused(e),
-    }
+    let n = validate_prefix(capacity, s)?;
+    Ok(Span { from: 0, to: n })
 }
 
 // What stands behind the TPM2B at the start of s.
-fn prefix_tail_range(capacity: usize, s: &[u8]) -> Range
+fn prefix_tail_range(capacity: usize, s: &[u8]) -> Result<Span, TpmError>
     ensures { said_range result ≡ behind (up_to (prefix capacity s.now)) (length s.now) }
 {
     behind(cast_prefix_range(capacity, s), s.len())
 }
 
 // Where the data stands: all behind the length field, which is not judged.
-pub fn data_range(s: &[u8]) -> Range
+#[tactic(auto, unfolding(crate::specs::View::data_range))]
+pub fn data_range(s: &[u8]) -> Result<Span, TpmError>
     ensures { said_range result ≡ data_range s.now }
 {
-    let read = size(s);
-    match read {
-        Count::Is(_) => Range::Is {
-            from: 2,
-            to: s.len(),
-        },
-        Count::Refused(e) => Range::Refused(e),
-    }
+    size(s)?;
+    Ok(Span {
+        from: 2,
+        to: s.len(),
+    })
 }
 
 // ---- the parts of these ranges
@@ -180,14 +159,11 @@ pub fn data_mut(s: &mut [u8]) -> &mut [u8]
 }
 
 // Whether the size field says 0.
-pub fn is_empty(s: &[u8]) -> Flag
-    ensures { said_flag result ≡ is_empty s.now }
+#[tactic(auto, unfolding(crate::specs::View::is_empty))]
+pub fn is_empty(s: &[u8]) -> Result<bool, TpmError>
+    ensures { said result ≡ is_empty s.now }
 {
-    let read = size(s);
-    match read {
-        Count::Is(n) => Flag::Is(n == 0),
-        Count::Refused(e) => Flag::Refused(e),
-    }
+    Ok(size(s)? == 0)
 }
 
 // The bytes that the view has.

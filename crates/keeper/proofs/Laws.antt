@@ -31,7 +31,7 @@ use Rattle.frame.proofs.Revisions.{same_command, same_response}
 use Rattle.keeper.specs.Keeper.{Open, session, already_open, all_open, is_open, asked, opened, closed, standard, Exchange, exchange, is_named, repeated, moves, settling, moving, moved, answered}
 use Rattle.keeper.specs.State.{count_of, held, place_of, put, shifted, opened_in, closed_in, moved_in, answered_in, bytes_of}
 use Rattle.keeper.specs.History.{Call, opening, answering, closing, asking, counting, silently, says, leaves, Event, Fits, Ran, fresh, next, moves_of, last_of, changed, told, recount, open_told, names}
-use Rattle.keeper.specs.Refusal.{said_outcome, said_asked}
+use Rattle.keeper.specs.Refusal.{said_done, said_asked}
 use Rattle.keeper.proofs.Found.{length_held}
 use Rattle.keeper.proofs.Places.{count_most}
 use Rattle.keeper.proofs.Runs.{opened_tests, ran_sound, none_held, kept_told, length_after}
@@ -61,17 +61,17 @@ new_starts κs a x v met = met
 
 pub open_steps : (κs : Lfts 2) (a : Dens κs open-kinds.ps) (x : (res_t open-kinds.r κs).Denot) (v : Lasts (ended_of 2 open-kinds.ps open-kinds.r) κs a)
     → open-reads.Post κs a x (at_exit (ended_of 2 open-kinds.ps open-kinds.r) κs a v)
-    → (silently (said_outcome x) ≡ says (opening a.1.0 a.1.1.0.now) (held a.0.now)) × (v.0 ≡ leaves (opening a.1.0 a.1.1.0.now) a.0.now)
+    → (silently (said_done x) ≡ says (opening a.1.0 a.1.1.0.now) (held a.0.now)) × (v.0 ≡ leaves (opening a.1.0 a.1.1.0.now) a.0.now)
 open_steps κs a x v met = (ap silently met.0 ∙ silent_done (opened a.1.0 a.1.1.0.now (held a.0.now)), met.1.1)
 
 pub close_steps : (κs : Lfts 1) (a : Dens κs close-kinds.ps) (x : (res_t close-kinds.r κs).Denot) (v : Lasts (ended_of 1 close-kinds.ps close-kinds.r) κs a)
     → close-reads.Post κs a x (at_exit (ended_of 1 close-kinds.ps close-kinds.r) κs a v)
-    → (silently (said_outcome x) ≡ says (closing a.1.0) (held a.0.now)) × (v.0 ≡ leaves (closing a.1.0) a.0.now)
+    → (silently (said_done x) ≡ says (closing a.1.0) (held a.0.now)) × (v.0 ≡ leaves (closing a.1.0) a.0.now)
 close_steps κs a x v met = (ap silently met.0 ∙ silent_done (closed a.1.0 (held a.0.now)), met.1.1)
 
 pub answer_steps : (κs : Lfts 3) (a : Dens κs answer-kinds.ps) (x : (res_t answer-kinds.r κs).Denot) (v : Lasts (ended_of 3 answer-kinds.ps answer-kinds.r) κs a)
     → answer-reads.Post κs a x (at_exit (ended_of 3 answer-kinds.ps answer-kinds.r) κs a v)
-    → (silently (said_outcome x) ≡ says (answering a.0 a.1.1.0.now a.1.1.1.0.now) (held a.1.0.now))
+    → (silently (said_done x) ≡ says (answering a.0 a.1.1.0.now a.1.1.1.0.now) (held a.1.0.now))
     × (v.1.0 ≡ leaves (answering a.0 a.1.1.0.now a.1.1.1.0.now) a.1.0.now)
 answer_steps κs a x v met = (ap silently met.0 ∙ silent_done (answered a.0 a.1.1.0.now a.1.1.1.0.now (held a.1.0.now)), met.1.1)
 

@@ -3,22 +3,19 @@
 use mathlib.Core.Path.{◌≡◌, refl, sym, ◌∙◌, ap}
 use mathlib.Core.Bool.{cond}
 use lib.Dec.{eqb}
+use Rattle.std.specs.Prelude.{Result}
 use Rattle.base.specs.declared.error.TpmError.{TpmError}
-use Rattle.base.specs.Answer.{Part}
+use Rattle.base.specs.declared.part.Span.{Span}
 use Rattle.base.specs.Error as frame
-use Rattle.base.specs.Said.{Why, number_of, Said, gives, refuses}
+use Rattle.base.specs.Said.{Why, number_of}
 use Rattle.base.specs.Single.{Single}
-use Rattle.base.proofs.Answers.{injective_by}
+use Rattle.base.proofs.Answers.{injective_by, said_by_injective}
 use Rattle.base.proofs.Eight.{no_other}
 use Rattle.base.proofs.Refusals.{named, named_numbered}
 use Rattle.keeper.specs.declared.refusal.Refusal.{Refusal}
 use Rattle.keeper.specs.declared.refusal.Refusal.TheVariants as refusal
-use Rattle.keeper.specs.declared.refusal.Outcome.{Outcome}
-use Rattle.keeper.specs.declared.refusal.Outcome.TheVariants as outcome
-use Rattle.keeper.specs.declared.refusal.Asked.{Asked}
-use Rattle.keeper.specs.declared.refusal.Asked.TheVariants as asked
 use Rattle.keeper.specs.Keeper.{handle_repeated, counts_differ, already_open, all_open, not_open}
-use Rattle.keeper.specs.Refusal.{numbered, said_outcome, said_asked}
+use Rattle.keeper.specs.Refusal.{numbered, said_done, said_asked}
 use Rattle.keeper.proofs.session.new.Kinds as new-kinds
 use Rattle.keeper.proofs.session.new.Reads as new-reads
 use Rattle.keeper.proofs.session.len.Kinds as len-kinds
@@ -58,27 +55,12 @@ told_refusal refusal.NotOpen = refl
 pub numbered_injective : (e f : Refusal) → numbered e ≡ numbered f → e ≡ f
 numbered_injective = injective_by numbered refusal_of told_refusal
 
-abbrev outcome_of : Said (Unit {0}) → Outcome
-outcome_of (gives u) = outcome.Done
-outcome_of (refuses why) = outcome.Refused (refusal_of why)
+pub said_done_injective : (a b : Result (Unit {0}) Refusal) → said_done a ≡ said_done b → a ≡ b
+said_done_injective = said_by_injective (λ u. u) numbered (λ u. u) refusal_of (λ u. refl) told_refusal
 
-told_outcome : (a : Outcome) → outcome_of (said_outcome a) ≡ a
-told_outcome outcome.Done = refl
-told_outcome (outcome.Refused e) = ap outcome.Refused (told_refusal e)
-
-pub said_outcome_injective : (a b : Outcome) → said_outcome a ≡ said_outcome b → a ≡ b
-said_outcome_injective = injective_by said_outcome outcome_of told_outcome
-
-abbrev asked_of : Said Part → Asked
-asked_of (gives p) = asked.Is p.from p.to
-asked_of (refuses why) = asked.Refused (refusal_of why)
-
-told_asked : (a : Asked) → asked_of (said_asked a) ≡ a
-told_asked (asked.Is from to) = refl
-told_asked (asked.Refused e) = ap asked.Refused (told_refusal e)
-
-pub said_asked_injective : (a b : Asked) → said_asked a ≡ said_asked b → a ≡ b
-said_asked_injective = injective_by said_asked asked_of told_asked
+pub said_asked_injective : (a b : Result Span Refusal) → said_asked a ≡ said_asked b → a ≡ b
+said_asked_injective =
+    said_by_injective (λ p. record { from = p.from; to = p.to }) numbered (λ p. record { from = p.from; to = p.to }) refusal_of (λ p. refl) told_refusal
 
 -- ---- the calls
 
@@ -89,13 +71,13 @@ session_len : Single 1 len-kinds.ps len-kinds.r len-reads.Post
 session_len κs a x y v w p q = (p ∙ sym q, refl)
 
 session_open : Single 2 open-kinds.ps open-kinds.r open-reads.Post
-session_open κs a x y v w p q = (said_outcome_injective x y (p.0 ∙ sym q.0), λ i. ((p.1.1 ∙ sym q.1.1) i, (tt, (tt, tt))))
+session_open κs a x y v w p q = (said_done_injective x y (p.0 ∙ sym q.0), λ i. ((p.1.1 ∙ sym q.1.1) i, (tt, (tt, tt))))
 
 session_close : Single 1 close-kinds.ps close-kinds.r close-reads.Post
-session_close κs a x y v w p q = (said_outcome_injective x y (p.0 ∙ sym q.0), λ i. ((p.1.1 ∙ sym q.1.1) i, (tt, tt)))
+session_close κs a x y v w p q = (said_done_injective x y (p.0 ∙ sym q.0), λ i. ((p.1.1 ∙ sym q.1.1) i, (tt, tt)))
 
 session_ask : Single 1 ask-kinds.ps ask-kinds.r ask-reads.Post
 session_ask κs a x y v w p q = (said_asked_injective x y (p.1 ∙ sym q.1), refl)
 
 answer_answer : Single 3 answer-kinds.ps answer-kinds.r answer-reads.Post
-answer_answer κs a x y v w p q = (said_outcome_injective x y (p.0 ∙ sym q.0), λ i. (tt, ((p.1.1 ∙ sym q.1.1) i, (tt, (tt, tt)))))
+answer_answer κs a x y v w p q = (said_done_injective x y (p.0 ∙ sym q.0), λ i. (tt, ((p.1.1 ∙ sym q.1.1) i, (tt, (tt, tt)))))

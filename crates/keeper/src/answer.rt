@@ -4,13 +4,11 @@ ghost use Rattle.std.specs.Prelude.{◌≡◌, ◌||◌, cond, ◌≤◌, ◌<�
 ghost use Rattle.base.specs.Said.{after, done};
 ghost use Rattle.frame.specs.Parts.{EachField, Kept, entries_of, field_in};
 ghost use Rattle.keeper.specs.Keeper.{answered, settling};
-ghost use Rattle.keeper.specs.Refusal.{said_outcome};
+ghost use Rattle.keeper.specs.Refusal.{said_done};
 ghost use Rattle.keeper.specs.State.{answered_in, held, place_of, renewed_at, same_place, settled_in};
 
-use crate::refusal::{Outcome, Refusal};
+use crate::refusal::Refusal;
 use crate::state::{State, place, renew};
-use frame::command::CommandSessions;
-use frame::response::ResponseSessions;
 use frame::rules::{Reading, Rules};
 use frame::session::{Entries, Session};
 use table::revision::Revision;
@@ -56,9 +54,9 @@ fn move_to(s: &mut [u8], at: usize, e: Session, response: &[u8])
 }
 
 // What is checked of the entries of the two frames, and then the moves.
-fn settle(s: &mut [u8], command: Entries, response: Entries, bytes: &[u8]) -> Outcome
+fn settle(s: &mut [u8], command: Entries, response: Entries, bytes: &[u8]) -> Result<(), Refusal>
     requires { (length s.old ≡ 4424) × (command.count ≤ 3) × (response.count ≤ 3) × EachField (Kept 64 (length bytes.now)) (entries_of response) }
-    ensures answer { said_outcome result ≡ done (settling bytes.now (entries_of command) (entries_of response) (held s.old)) }
+    ensures answer { said_done result ≡ done (settling bytes.now (entries_of command) (entries_of response) (held s.old)) }
     ensures later { s.new ≡ after s.old (settled_in bytes.now (entries_of command) (entries_of response) s.old) }
 {
     let count = command.count;
@@ -66,20 +64,25 @@ fn settle(s: &mut [u8], command: Entries, response: Entries, bytes: &[u8]) -> Ou
     let second = named(s, 1 < count, command.second);
     let third = named(s, 2 < count, command.third);
     if repeated(first, second, third) {
-        return Outcome::Refused(Refusal::HandleRepeated);
+        return Err(Refusal::HandleRepeated);
     }
     if count == response.count {
         move_to(s, first, response.first, bytes);
         move_to(s, second, response.second, bytes);
         move_to(s, third, response.third, bytes);
-        return Outcome::Done;
+        return Ok(());
     }
-    Outcome::Refused(Refusal::CountsDiffer)
+    Err(Refusal::CountsDiffer)
 }
 
 // Both frames pass in the standard reading, at the table that is named.
-pub fn answer(revision: Revision, keeper: &mut State, command: &[u8], response: &[u8]) -> Outcome
-    ensures answer { said_outcome result ≡ done (answered revision command.now response.now (held keeper.old)) }
+pub fn answer(
+    revision: Revision,
+    keeper: &mut State,
+    command: &[u8],
+    response: &[u8],
+) -> Result<(), Refusal>
+    ensures answer { said_done result ≡ done (answered revision command.now response.now (held keeper.old)) }
     ensures sessions { held keeper.new ≡ after (held keeper.old) (answered revision command.now response.now (held keeper.old)) }
     ensures bytes { keeper.new ≡ after keeper.old (answered_in revision command.now response.now keeper.old) }
 {
@@ -87,19 +90,11 @@ pub fn answer(revision: Revision, keeper: &mut State, command: &[u8], response: 
         reading: Reading::Standard,
         revision,
     };
-    match frame::command::sessions(by, command) {
-        CommandSessions::Refused(e) => Outcome::Refused(Refusal::Frame(e)),
-        CommandSessions::Is { cc, entries: named } => {
-            match frame::response::sessions(by, cc, response) {
-                ResponseSessions::Refused(e) => Outcome::Refused(Refusal::Frame(e)),
-                ResponseSessions::Is { rc, entries: given } => {
-                    if rc.0 == 0 {
-                        settle(keeper, named, given, response)
-                    } else {
-                        Outcome::Done
-                    }
-                }
-            }
-        }
+    let asked = frame::command::sessions(by, command)?;
+    let told = frame::response::sessions(by, asked.cc, response)?;
+    if told.rc.0 == 0 {
+        settle(keeper, asked.entries, told.entries, response)
+    } else {
+        Ok(())
     }
 }

@@ -1,4 +1,7 @@
 // What the keeper refuses: a frame, by the frame's own refusal, and what document 02 (W8) adds to it, without fields.
+ghost use Rattle.std.specs.Prelude.{◌≡◌};
+ghost use Rattle.keeper.specs.declared.refusal.Refusal.TheVariants.{Frame};
+
 use base::error::TpmError;
 
 #[derive(Clone, Copy)]
@@ -11,15 +14,10 @@ pub enum Refusal {
     NotOpen,
 }
 
-#[derive(Clone, Copy)]
-pub enum Outcome {
-    Done,
-    Refused(Refusal),
-}
+impl From<TpmError> for Refusal {
+    ghost from_gives = { λ e r. r ≡ Frame e };
 
-// The nonce of a session: a part of the keeper's own bytes, by its start and its end.
-#[derive(Clone, Copy)]
-pub enum Asked {
-    Is { from: usize, to: usize },
-    Refused(Refusal),
+    fn from(e: TpmError) -> Refusal {
+        Refusal::Frame(e)
+    }
 }

@@ -2,12 +2,13 @@
 ghost use Rattle.std.specs.Prelude.{◌≡◌, length, replicate};
 ghost use Rattle.base.specs.Said.{after, done};
 ghost use Rattle.keeper.specs.Keeper.{asked, closed, opened};
-ghost use Rattle.keeper.specs.Refusal.{said_asked, said_outcome};
+ghost use Rattle.keeper.specs.Refusal.{said_asked, said_done};
 ghost use Rattle.keeper.specs.State.{asked_in, bytes_of, closed_in, held, opened_in};
 
-use crate::refusal::{Asked, Outcome, Refusal};
+use crate::refusal::Refusal;
 use crate::state::{COUNT, NONCES, PLACES, State, count, place, put, shift, size_at};
 use base::error::{Area, TpmError};
+use base::part::Span;
 
 // The most bytes of a nonce (document 02, W6 and W8).
 const LONGEST: usize = 64;
@@ -27,16 +28,16 @@ pub fn len(keeper: &State) -> usize
 }
 
 // Opens a session with its first nonce.
-pub fn open(keeper: &mut State, handle: u32, nonce: &[u8]) -> Outcome
-    ensures answer { said_outcome result ≡ done (opened handle nonce.now (held keeper.old)) }
+pub fn open(keeper: &mut State, handle: u32, nonce: &[u8]) -> Result<(), Refusal>
+    ensures answer { said_done result ≡ done (opened handle nonce.now (held keeper.old)) }
     ensures sessions { held keeper.new ≡ after (held keeper.old) (opened handle nonce.now (held keeper.old)) }
     ensures bytes { keeper.new ≡ after keeper.old (opened_in handle nonce.now keeper.old) }
 {
     if 0 < place(keeper, handle) {
-        return Outcome::Refused(Refusal::AlreadyOpen);
+        return Err(Refusal::AlreadyOpen);
     }
     if LONGEST < nonce.len() {
-        return Outcome::Refused(Refusal::Frame(TpmError::TooManyBytes {
+        return Err(Refusal::Frame(TpmError::TooManyBytes {
             area: Area::None,
             offset: 0,
             limit: LONGEST,
@@ -47,14 +48,14 @@ pub fn open(keeper: &mut State, handle: u32, nonce: &[u8]) -> Outcome
     if n < PLACES {
         put(keeper, n, handle, nonce);
         keeper[COUNT] = n as u8 + 1;
-        return Outcome::Done;
+        return Ok(());
     }
-    Outcome::Refused(Refusal::AllOpen)
+    Err(Refusal::AllOpen)
 }
 
 // Closes a session. The last one takes its place.
-pub fn close(keeper: &mut State, handle: u32) -> Outcome
-    ensures answer { said_outcome result ≡ done (closed handle (held keeper.old)) }
+pub fn close(keeper: &mut State, handle: u32) -> Result<(), Refusal>
+    ensures answer { said_done result ≡ done (closed handle (held keeper.old)) }
     ensures sessions { held keeper.new ≡ after (held keeper.old) (closed handle (held keeper.old)) }
     ensures bytes { keeper.new ≡ after keeper.old (closed_in handle keeper.old) }
 {
@@ -63,13 +64,13 @@ pub fn close(keeper: &mut State, handle: u32) -> Outcome
         let last = count(keeper) - 1;
         shift(keeper, last, at - 1);
         keeper[COUNT] = last as u8;
-        return Outcome::Done;
+        return Ok(());
     }
-    Outcome::Refused(Refusal::NotOpen)
+    Err(Refusal::NotOpen)
 }
 
 // Where the nonce of a session stands in the keeper's bytes.
-pub fn ask(keeper: &State, handle: u32) -> Asked
+pub fn ask(keeper: &State, handle: u32) -> Result<Span, Refusal>
     ensures nonce { bytes_of (said_asked result) keeper.now ≡ asked handle (held keeper.now) }
     ensures place { said_asked result ≡ asked_in handle keeper.now }
 {
@@ -77,10 +78,10 @@ pub fn ask(keeper: &State, handle: u32) -> Asked
     if 0 < at {
         let i = at - 1;
         let from = NONCES + 64 * i;
-        return Asked::Is {
+        return Ok(Span {
             from,
             to: from + size_at(keeper, i),
-        };
+        });
     }
-    Asked::Refused(Refusal::NotOpen)
+    Err(Refusal::NotOpen)
 }

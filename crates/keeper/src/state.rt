@@ -60,7 +60,7 @@ pub(crate) fn renew(s: &mut [u8], i: usize, nonce: &[u8])
     ensures { s.new ≡ renewed i nonce.now s.old }
 {
     s[SIZES + i] = nonce.len() as u8;
-    write_bytes(s, NONCES + 64 * i, nonce);
+    let _ = write_bytes(s, NONCES + 64 * i, nonce);
 }
 
 // Another session for it.
@@ -87,7 +87,7 @@ pub(crate) fn shift(s: &mut [u8], from: usize, to: usize)
     let start = NONCES + 64 * from;
     let end = start + size;
     let mut nonce = [0; 64];
-    write_bytes(&mut nonce, 0, &s[start..end]);
+    let _ = write_bytes(&mut nonce, 0, &s[start..end]);
     put(s, to, handle, &nonce[..size]);
 }
 

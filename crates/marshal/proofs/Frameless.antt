@@ -6,8 +6,7 @@ use mathlib.Core.List.{List, [], ◌∷◌}
 use Prim.Native.Nat.{ℕ, ◌+◌, ◌*◌}
 use lib.Dec.{eqb, leb, ltb}
 use lib.ListN.{length}
-use Rattle.base.specs.declared.answer.Total.{Total}
-use Rattle.base.specs.declared.answer.Total.TheVariants as total
+use Rattle.std.specs.Prelude.{Result, Err}
 use Rattle.base.specs.declared.error.WriteError.{WriteError}
 use Rattle.base.specs.Answer.{said_total}
 use Rattle.base.specs.Error.{writer_numbered}
@@ -109,13 +108,13 @@ module _ (book : Rulebook) where
 
 -- ---- what callers are answered
 
-told : {y : Said ℕ} → Only OfWriter y → {x : Total} → said_total x ≡ y → (e : WriteError) → x ≡ total.Refused e → OfWriter (writer_numbered e)
+told : {y : Said ℕ} → Only OfWriter y → {x : Result ℕ WriteError} → said_total x ≡ y → (e : WriteError) → x ≡ Err e → OfWriter (writer_numbered e)
 told p met e is = p.each (writer_numbered e) (sym met ∙ ap said_total is)
 
 pub command_write : Promised 4 command-write-kinds.ps command-write-kinds.r command-write-reads.Post
-    (λ κs a x later. (e : WriteError) → x ≡ total.Refused e → OfWriter (writer_numbered e))
+    (λ κs a x later. (e : WriteError) → x ≡ Err e → OfWriter (writer_numbered e))
 command_write κs a x v met = told (by_step _ (only_command (book_of a.0) a.1.0.0 a.1.1.0.0 _ _)) met.0
 
 pub response_write : Promised 4 response-write-kinds.ps response-write-kinds.r response-write-reads.Post
-    (λ κs a x later. (e : WriteError) → x ≡ total.Refused e → OfWriter (writer_numbered e))
+    (λ κs a x later. (e : WriteError) → x ≡ Err e → OfWriter (writer_numbered e))
 response_write κs a x v met = told (by_step _ (only_response (book_for a.0) (asked a.0) a.1.1.0.0 a.1.0.0 _ _)) met.0

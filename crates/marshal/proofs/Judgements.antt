@@ -8,6 +8,10 @@ use native.Mathlib.Omega.{arith}
 use borrow.Author.Tests.{le-leb, lt-leb, leb-false}
 use lib.Dec.{eqb, leb}
 use lib.ListN.{length, take}
+use Rattle.base.specs.declared.error.TpmError.{TpmError}
+use Rattle.base.specs.declared.error.WriteError.{WriteError}
+use Rattle.base.specs.declared.error.WriteError.TheVariants.{Common}
+use Rattle.base.specs.Error.{numbered, writer_numbered}
 use Rattle.base.specs.Said.{Why, no_area, Said, gives, refuses, needs, then, given}
 use Rattle.base.proofs.Checks.{passes, fails, goes_on, stops, then_gives, gives_injective, refuses_injective, gives≢refuses}
 use Rattle.frame.specs.declared.session.Entries.{Entries}
@@ -23,6 +27,10 @@ use Rattle.marshal.specs.Write.{capped, field_there, session_there, sessions_the
 pub handle_width_lem : (b : Bool) → handle_width b ≤ 4
 handle_width_lem true = omega arith
 handle_width_lem false = omega arith
+
+-- what a writer refuses with in common with readers is told as readers tell it
+pub told : {A : Type 0} {w : WriteError} {e : TpmError} {why : Why} → w ≡ Common e → numbered e ≡ why → ◌≡◌ {A = Said A} (refuses (writer_numbered w)) (refuses why)
+told is tells = ap (λ (w : WriteError). refuses (writer_numbered w)) is ∙ ap refuses tells
 
 -- ---- what is found of a nonce or an HMAC, of a session, and of all
 

@@ -13,9 +13,9 @@ use Prim.Native.Nat.{ℕ, ◌+◌, ◌-◌, ◌≤◌, ◌<◌}
 use borrow.Author.Tests.{eqb-true}
 use lib.Dec.{eqb}
 use lib.ListN.{length, take, drop}
-use Rattle.base.specs.declared.answer.Total.{Total}
-use Rattle.base.specs.declared.answer.Total.TheVariants as total
+use Rattle.std.specs.Prelude.{Result, Err}
 use Rattle.base.specs.declared.error.WriteError.TheVariants.{IntegerTooLarge}
+use Rattle.base.specs.declared.error.WriteError.{WriteError}
 use Rattle.base.specs.Answer.{said_total}
 use Rattle.base.specs.Bytes.{AreBytes}
 use Rattle.base.specs.Said.{Why, no_area, Said, gives, refuses}
@@ -133,7 +133,7 @@ refused_leaves room e = ap (room_after room) e
 abbrev Bare : ℕ → ℕ → Type 0
 Bare tag count = (tag ≡ sessions) × (count ≡ 0)
 
-module _ (book : Rulebook) (tag code : ℕ) (h : Handed) (room : List ℕ) (x : Total) (later : List ℕ) where
+module _ (book : Rulebook) (tag code : ℕ) (h : Handed) (room : List ℕ) (x : Result ℕ WriteError) (later : List ℕ) where
   abbrev CommandFrom : List ℕ → Command → Type 0
   CommandFrom s c = (tag ≡ c.tag.0) × (code ≡ c.cc.0) × (h ≡ command_handed s c)
 
@@ -143,7 +143,7 @@ module _ (book : Rulebook) (tag code : ℕ) (h : Handed) (room : List ℕ) (x : 
       Writes book.longest (λ s. command_by_value s (read_command book s)) command_parts layout_command (CommandFormed book)
       CommandFrom (λ c. Bare c.tag.0 c.entries.count) h code (command_frame tag code h) room x later
       × ((s : List ℕ) (c : Command) → CommandFrom s c → Bare c.tag.0 c.entries.count → Refused room x later (no_area (3 ∷ 0 ∷ 0x8002 ∷ [])))
-      × ((n : ℕ) → (x ≡ total.Refused (IntegerTooLarge 0 n)) ↔ CommandTooLarge book tag code h n)
+      × ((n : ℕ) → (x ≡ Err (IntegerTooLarge 0 n)) ↔ CommandTooLarge book tag code h n)
 
   abbrev command_said : Said (List ℕ)
   command_said = write_command book tag code h (length room)
@@ -174,7 +174,7 @@ pub command_write : Promised 4 command-write-kinds.ps command-write-kinds.r comm
     CommandWrites (book_of a.0) a.1.0.0 a.1.1.0.0 h a.1.1.1.1.1.1.1.0.now x later.1.1.1.1.1.1.1.0.now)
 command_write κs a x v met = command_writes (book_of a.0) a.1.0.0 a.1.1.0.0 _ _ x _ (is_table a.0.revision) met.0 met.1
 
-module _ (book : Rulebook) (asks : Bool) (cc code : ℕ) (h : Handed) (room : List ℕ) (x : Total) (later : List ℕ) where
+module _ (book : Rulebook) (asks : Bool) (cc code : ℕ) (h : Handed) (room : List ℕ) (x : Result ℕ WriteError) (later : List ℕ) where
   -- the tag of the answer to a bad tag is asked for where it was read
   abbrev ResponseFrom : List ℕ → Response → Type 0
   ResponseFrom s r = (asks ≡ eqb r.tag.0 rsp_command) × (code ≡ r.rc.0) × (h ≡ response_handed s r)
@@ -187,7 +187,7 @@ module _ (book : Rulebook) (asks : Bool) (cc code : ℕ) (h : Handed) (room : Li
       × ((s : List ℕ) → AreBytes s → (r : Response) → response_by_value s (read_response book cc s) ≡ gives r → ResponseFrom s r
       → Bare r.tag.0 r.entries.count → length s - 4 ≤ length room
       → Written room x later (shorter s r) × (length (shorter s r) + 4 ≡ length s))
-      × ((n : ℕ) → (x ≡ total.Refused (IntegerTooLarge 0 n)) ↔ ResponseTooLarge book asks cc code h n)
+      × ((n : ℕ) → (x ≡ Err (IntegerTooLarge 0 n)) ↔ ResponseTooLarge book asks cc code h n)
 
   abbrev response_said : Said (List ℕ)
   response_said = write_response book asks cc code h (length room)

@@ -6,7 +6,7 @@ use mathlib.Core.Bool.{Bool}
 use mathlib.Core.List.{List}
 use Prim.Native.Nat.{ℕ}
 use lib.ListN.{length}
-use Rattle.base.specs.declared.answer.Total.TheVariants as total
+use Rattle.std.specs.Prelude.{Ok}
 use Rattle.base.specs.Answer.{said_total}
 use Rattle.base.specs.Said.{gives}
 use Rattle.table.specs.declared.revision.Revision.{Revision}
@@ -64,7 +64,7 @@ response_write κs a x v met other same =
 -- ---- what is written at a table is of that table: its code, of a response its command's, has a row there
 
 pub command_write_row : Promised 4 command-write-kinds.ps command-write-kinds.r command-write-reads.Post
-    (λ κs a x later. (n : ℕ) → x ≡ total.Is n → (row : Row) × (row_for (table_of a.0.revision) a.1.1.0.0 ≡ gives row))
+    (λ κs a x later. (n : ℕ) → x ≡ Ok n → (row : Row) × (row_for (table_of a.0.revision) a.1.1.0.0 ≡ gives row))
 command_write_row κs a x v met n is =
     let room = a.1.1.1.1.1.1.1.0.now in
     let h : Handed = handed a.1.1.1.0.now a.1.1.1.1.0 a.1.1.1.1.1.0.now a.1.1.1.1.1.1.0.now in
@@ -73,7 +73,7 @@ command_write_row κs a x v met n is =
     (passed.row, passed.has_row)
 
 pub response_write_row : Promised 4 response-write-kinds.ps response-write-kinds.r response-write-reads.Post
-    (λ κs a x later. (n : ℕ) → x ≡ total.Is n → (row : Row) × (row_for (table_of a.0.revision) a.1.1.0.0 ≡ gives row))
+    (λ κs a x later. (n : ℕ) → x ≡ Ok n → (row : Row) × (row_for (table_of a.0.revision) a.1.1.0.0 ≡ gives row))
 response_write_row κs a x v met n is =
     let room = a.1.1.1.1.1.1.1.0.now in
     let h : Handed = handed a.1.1.1.0.now a.1.1.1.1.0 a.1.1.1.1.1.0.now a.1.1.1.1.1.1.0.now in

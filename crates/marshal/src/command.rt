@@ -8,14 +8,12 @@ ghost use Rattle.base.specs.Field.{laid};
 ghost use Rattle.marshal.specs.Write.{Ready, counted, room_after, write_command};
 
 use crate::put::{put, put_entries, put_header, put_u32};
-use crate::total::{common, entries_length, found, judge, look, tag_for, too_many};
-use base::answer::Total;
+use crate::total::{entries_length, found, judge, look, tag_for, too_many};
 use base::code::{TpmCc, TpmSt};
-use base::error::Area;
+use base::error::{Area, WriteError};
 use frame::rules::{Rules, longest};
 use frame::session::{Entries, MAX_SESSIONS};
 use table::dispatch::find;
-use table::row::Found;
 
 // The total, or the first refusal.
 fn judge_command(
@@ -27,31 +25,26 @@ fn judge_command(
     lent: &[u8],
     parameters: &[u8],
     room: usize,
-) -> Total
+) -> Result<usize, WriteError>
     ensures { said_total result ≡ counted (write_command (book_of rules) tag.0 cc.0 (handed handles.now sessions lent.now parameters.now) room) }
 {
-    if tag.0 == tag_for(sessions.count) {
-        if MAX_SESSIONS < sessions.count {
-            return common(too_many(sessions.count));
-        }
-        let revision = rules.revision;
-        return match find(revision, cc) {
-            Found::Refused(e) => common(e),
-            Found::Is(row) => {
-                let limit = longest(rules);
-                let looked = look(limit, sessions, lent.len());
-                judge(
-                    tag.0,
-                    row.handles,
-                    handles.len(),
-                    found(limit, lent.len(), looked, entries_length(true, sessions)),
-                    parameters.len(),
-                    room,
-                )
-            }
-        };
+    if tag.0 != tag_for(sessions.count) {
+        return Err(tag.refused(Area::None, 0).into());
     }
-    common(tag.refused(Area::None, 0))
+    if MAX_SESSIONS < sessions.count {
+        return Err(too_many(sessions.count).into());
+    }
+    let row = find(rules.revision, cc)?;
+    let limit = longest(rules);
+    let looked = look(limit, sessions, lent.len());
+    judge(
+        tag.0,
+        row.handles,
+        handles.len(),
+        found(limit, lent.len(), looked, entries_length(true, sessions)),
+        parameters.len(),
+        room,
+    )
 }
 
 // Lays out a command that was judged.
@@ -90,11 +83,11 @@ pub fn write(
     lent: &[u8],
     parameters: &[u8],
     room: &mut [u8],
-) -> Total
+) -> Result<usize, WriteError>
     ensures answer { said_total result ≡ counted (write_command (book_of rules) tag.0 cc.0 (handed handles.now sessions lent.now parameters.now) (length room.old)) }
     ensures bytes { room.new ≡ room_after room.old (write_command (book_of rules) tag.0 cc.0 (handed handles.now sessions lent.now parameters.now) (length room.old)) }
 {
-    let judged = judge_command(
+    let total = judge_command(
         rules,
         tag,
         cc,
@@ -103,10 +96,7 @@ pub fn write(
         lent,
         parameters,
         room.len(),
-    );
-    let Total::Is(total) = judged else {
-        return judged;
-    };
+    )?;
     lay_command(tag, cc, handles, sessions, lent, parameters, total, room);
-    judged
+    Ok(total)
 }

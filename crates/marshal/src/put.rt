@@ -19,7 +19,7 @@ pub(crate) fn put(t: &[u8], place: usize, room: &mut [u8]) -> usize
     requires { place + length t.now ≤ length room.old }
     ensures { Puts place t.now room.old result room.new }
 {
-    write_bytes(room, place, t);
+    let _ = write_bytes(room, place, t);
     place + t.len()
 }
 
@@ -27,7 +27,7 @@ pub(crate) fn put_u16(n: u16, place: usize, room: &mut [u8]) -> usize
     requires { place + 2 ≤ length room.old }
     ensures { Puts place (bytes 2 n) room.old result room.new }
 {
-    write_u16(room, place, n);
+    let _ = write_u16(room, place, n);
     place + 2
 }
 
@@ -35,7 +35,7 @@ pub(crate) fn put_u32(n: u32, place: usize, room: &mut [u8]) -> usize
     requires { place + 4 ≤ length room.old }
     ensures { Puts place (bytes 4 n) room.old result room.new }
 {
-    write_u32(room, place, n);
+    let _ = write_u32(room, place, n);
     place + 4
 }
 

@@ -12,54 +12,48 @@ ghost use Rattle.marshal.specs.Write.{Ready, counted, room_after, write_bad_tag,
 
 use crate::mode::{ResponseRules, asks_bad_tag, rules_for};
 use crate::put::{put, put_entries, put_header, put_u32};
-use crate::total::{common, entries_length, fits, found, judge, look, tag_for, too_many};
-use base::answer::Total;
+use crate::total::{entries_length, fits, found, judge, look, tag_for, too_many};
 use base::code::{TpmCc, TpmRc, TpmSt};
-use base::error::Area;
+use base::error::{Area, WriteError};
 use frame::header::{BAD_TAG, HEADER_SIZE, PLAIN, RSP_COMMAND, SESSIONS};
 use frame::rules::longest;
 use frame::session::{Entries, MAX_SESSIONS};
-use rc::code::{Answer, read};
+use rc::code::read;
 use table::dispatch::find;
-use table::row::Found;
 
 // A code other than success, with so many sessions.
-fn judge_error(rc: TpmRc, count: usize, room: usize) -> Total
+fn judge_error(rc: TpmRc, count: usize, room: usize) -> Result<usize, WriteError>
     ensures { said_total result ≡ needs (given (read_code rc.0)) (no_area (5 ∷ 0 ∷ rc.0 ∷ [])) (counted (write_error rc.0 count room)) }
 {
-    match read(rc) {
-        Answer::Refused(_) => common(rc.refused(Area::None, 0)),
-        Answer::Code(_) => {
-            if count == 0 {
-                return fits(HEADER_SIZE, room);
-            }
-            common(TpmSt(SESSIONS).refused(Area::None, 0))
-        }
+    let Ok(_) = read(rc) else {
+        return Err(rc.refused(Area::None, 0).into());
+    };
+    if count == 0 {
+        return fits(HEADER_SIZE, room);
     }
+    Err(TpmSt(SESSIONS).refused(Area::None, 0).into())
 }
 
 // The same with the tag of the answer to a bad tag asked for, which no other code gets.
-fn judge_bad_tag(rc: TpmRc, count: usize, room: usize) -> Total
+fn judge_bad_tag(rc: TpmRc, count: usize, room: usize) -> Result<usize, WriteError>
     ensures { said_total result ≡ needs (given (read_code rc.0) || eqb rc.0 bad_tag) (no_area (5 ∷ 0 ∷ rc.0 ∷ [])) (counted (write_bad_tag rc.0 count room)) }
 {
     if rc.0 == BAD_TAG {
         if count == 0 {
             return fits(HEADER_SIZE, room);
         }
-        return common(TpmSt(SESSIONS).refused(Area::None, 0));
+        return Err(TpmSt(SESSIONS).refused(Area::None, 0).into());
     }
     if rc.0 == 0 {
-        return common(rc.refused(Area::None, 0));
+        return Err(rc.refused(Area::None, 0).into());
     }
-    match read(rc) {
-        Answer::Refused(_) => common(rc.refused(Area::None, 0)),
-        Answer::Code(_) => {
-            if count == 0 {
-                return common(rc.refused(Area::None, 0));
-            }
-            common(TpmSt(SESSIONS).refused(Area::None, 0))
-        }
+    let Ok(_) = read(rc) else {
+        return Err(rc.refused(Area::None, 0).into());
+    };
+    if count == 0 {
+        return Err(rc.refused(Area::None, 0).into());
     }
+    Err(TpmSt(SESSIONS).refused(Area::None, 0).into())
 }
 
 // The tag of an error response.
@@ -83,34 +77,29 @@ fn judge_response(
     lent: &[u8],
     parameters: &[u8],
     room: usize,
-) -> Total
+) -> Result<usize, WriteError>
     ensures { said_total result ≡ counted (write_response (book_for rules) (asked rules) cc.0 rc.0 (handed handles.now sessions lent.now parameters.now) room) }
 {
     if MAX_SESSIONS < sessions.count {
-        return common(too_many(sessions.count));
+        return Err(too_many(sessions.count).into());
     }
-    let revision = rules.revision;
-    match find(revision, cc) {
-        Found::Refused(e) => common(e),
-        Found::Is(row) => {
-            if asks_bad_tag(rules) {
-                return judge_bad_tag(rc, sessions.count, room);
-            }
-            if rc.0 == 0 {
-                let limit = longest(rules_for(rules));
-                let looked = look(limit, sessions, lent.len());
-                return judge(
-                    tag_for(sessions.count),
-                    row.responses,
-                    handles.len(),
-                    found(limit, lent.len(), looked, entries_length(false, sessions)),
-                    parameters.len(),
-                    room,
-                );
-            }
-            judge_error(rc, sessions.count, room)
-        }
+    let row = find(rules.revision, cc)?;
+    if asks_bad_tag(rules) {
+        return judge_bad_tag(rc, sessions.count, room);
     }
+    if rc.0 != 0 {
+        return judge_error(rc, sessions.count, room);
+    }
+    let limit = longest(rules_for(rules));
+    let looked = look(limit, sessions, lent.len());
+    judge(
+        tag_for(sessions.count),
+        row.responses,
+        handles.len(),
+        found(limit, lent.len(), looked, entries_length(false, sessions)),
+        parameters.len(),
+        room,
+    )
 }
 
 // Lays out a success response that was judged.
@@ -147,11 +136,11 @@ pub fn write(
     lent: &[u8],
     parameters: &[u8],
     room: &mut [u8],
-) -> Total
+) -> Result<usize, WriteError>
     ensures answer { said_total result ≡ counted (write_response (book_for rules) (asked rules) cc.0 rc.0 (handed handles.now sessions lent.now parameters.now) (length room.old)) }
     ensures bytes { room.new ≡ room_after room.old (write_response (book_for rules) (asked rules) cc.0 rc.0 (handed handles.now sessions lent.now parameters.now) (length room.old)) }
 {
-    let judged = judge_response(
+    let total = judge_response(
         rules,
         rc,
         cc,
@@ -160,14 +149,11 @@ pub fn write(
         lent,
         parameters,
         room.len(),
-    );
-    let Total::Is(total) = judged else {
-        return judged;
-    };
+    )?;
     if rc.0 == 0 {
         lay_success(handles, sessions, lent, parameters, total, room);
-        return judged;
+    } else {
+        put_header(error_tag(rules), HEADER_SIZE as u32, rc.0, room);
     }
-    put_header(error_tag(rules), HEADER_SIZE as u32, rc.0, room);
-    judged
+    Ok(total)
 }

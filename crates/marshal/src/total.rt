@@ -1,6 +1,6 @@
 // How long a frame gets, and whether it can be written: nothing here touches the room.
 ghost use Rattle.std.specs.Prelude.{◌≡◌, [], ◌∷◌, ℕ, ◌+◌, ◌-◌, ◌≤◌, cond, eqb, leb, length};
-ghost use Rattle.base.specs.Answer.{said_count, said_total};
+ghost use Rattle.base.specs.Answer.{said, said_total};
 ghost use Rattle.base.specs.Error.{numbered};
 ghost use Rattle.base.specs.Said.{given, gives, no_area, refuses, then};
 ghost use Rattle.frame.specs.Answer.{handle_width};
@@ -10,7 +10,6 @@ ghost use Rattle.marshal.specs.Handed.{Handed, tag_for};
 ghost use Rattle.marshal.specs.Looked.{said_looked, why_not};
 ghost use Rattle.marshal.specs.Write.{capped, entries_length, entries_said, entry_length, field_there, fitted, judged, session_there, sessions_there};
 
-use base::answer::{Count, Total};
 use base::error::{Area, TpmError, WriteError};
 use base::field::left;
 use frame::header::{HEADER_SIZE, PLAIN, SESSIONS};
@@ -57,11 +56,12 @@ pub(crate) fn too_many(count: usize) -> TpmError
     }
 }
 
-// What was found of the sessions: all that they name, or the first nonce or HMAC that cannot be taken.
+// A nonce or an HMAC that cannot be taken: its position and its length, as the refusal tells them. A length of 16 bits would be widened
+// at every use.
 #[derive(Clone, Copy)]
-pub(crate) enum Looked {
-    All,
-    Missing { at: usize, size: usize },
+pub(crate) struct Missing {
+    at: usize,
+    size: usize,
 }
 
 // Whether a nonce or an HMAC stands within so many lent bytes. A position is never added to: it may be any number.
@@ -79,66 +79,62 @@ fn there(limit: usize, f: Field, lent: usize) -> bool
 }
 
 // Why it is not: too long, or past the end.
-fn why_not(limit: usize, lent: usize, at: usize, size: usize) -> TpmError
-    ensures { numbered result ≡ why_not limit lent at size }
+fn why_not(limit: usize, lent: usize, field: Missing) -> TpmError
+    ensures { numbered result ≡ why_not limit lent field.at field.size }
 {
-    if limit < size {
+    if limit < field.size {
         return TpmError::TooManyBytes {
             area: Area::None,
             offset: 0,
             limit,
-            actual: size,
+            actual: field.size,
         };
     }
     TpmError::UnexpectedEnd {
         area: Area::None,
-        offset: at,
-        needed: size,
-        available: left(lent, at),
+        offset: field.at,
+        needed: field.size,
+        available: left(lent, field.at),
     }
+}
+
+// Looks at a nonce or an HMAC.
+fn look_at(limit: usize, f: Field, lent: usize) -> Result<(), Missing>
+    ensures { said_looked limit lent result ≡ field_there limit lent f }
+{
+    if there(limit, f, lent) {
+        return Ok(());
+    }
+    Err(Missing {
+        at: f.at,
+        size: f.size as usize,
+    })
 }
 
 // Looks at one session, the nonce before the HMAC.
-fn look_at(limit: usize, e: Session, lent: usize) -> Looked
+fn look_at_both(limit: usize, e: Session, lent: usize) -> Result<(), Missing>
     ensures { said_looked limit lent result ≡ session_there limit lent e }
 {
-    if there(limit, e.nonce, lent) {
-        if there(limit, e.hmac, lent) {
-            return Looked::All;
-        }
-        return Looked::Missing {
-            at: e.hmac.at,
-            size: e.hmac.size as usize,
-        };
-    }
-    Looked::Missing {
-        at: e.nonce.at,
-        size: e.nonce.size as usize,
-    }
+    look_at(limit, e.nonce, lent)?;
+    look_at(limit, e.hmac, lent)
 }
 
 // Looks at the sessions in their order, for nonces and HMACs of at most so many bytes, in so many lent bytes.
-pub(crate) fn look(limit: usize, es: Entries, lent: usize) -> Looked
+pub(crate) fn look(limit: usize, es: Entries, lent: usize) -> Result<(), Missing>
     ensures { said_looked limit lent result ≡ sessions_there limit lent (entries_of es) }
 {
     if es.count == 0 {
-        return Looked::All;
+        return Ok(());
     }
-    let first = look_at(limit, es.first, lent);
-    let Looked::All = first else {
-        return first;
-    };
+    look_at_both(limit, es.first, lent)?;
     if es.count == 1 {
-        return Looked::All;
+        return Ok(());
     }
-    let second = look_at(limit, es.second, lent);
-    let Looked::All = second else {
-        return second;
-    };
+    look_at_both(limit, es.second, lent)?;
     if es.count == 2 {
-        return Looked::All;
+        return Ok(());
     }
-    look_at(limit, es.third, lent)
+    look_at_both(limit, es.third, lent)
 }
 
 // The bytes that the entry of a session takes.
@@ -168,35 +164,34 @@ pub(crate) fn entries_length(command: bool, es: Entries) -> usize
 }
 
 // The bytes of the entries, where all that they name was found.
-pub(crate) fn found(limit: usize, lent: usize, looked: Looked, length: usize) -> Count
-    ensures { said_count result ≡ then (said_looked limit lent looked) (λ there. gives length) }
+pub(crate) fn found(
+    limit: usize,
+    lent: usize,
+    looked: Result<(), Missing>,
+    length: usize,
+) -> Result<usize, TpmError>
+    ensures { said result ≡ then (said_looked limit lent looked) (λ there. gives length) }
 {
     match looked {
-        Looked::All => Count::Is(length),
-        Looked::Missing { at, size } => Count::Refused(why_not(limit, lent, at, size)),
+        Ok(()) => Ok(length),
+        Err(field) => Err(why_not(limit, lent, field)),
     }
 }
 
-// A refusal that a writer has in common with readers.
-pub(crate) fn common(e: TpmError) -> Total
-    ensures { said_total result ≡ refuses (numbered e) }
-{
-    Total::Refused(WriteError::Common(e))
-}
-
 // The total, where there is room for it.
-pub(crate) fn fits(total: usize, room: usize) -> Total
+pub(crate) fn fits(total: usize, room: usize) -> Result<usize, WriteError>
     ensures { said_total result ≡ fitted total room }
 {
     if room < total {
-        return common(TpmError::BufferOverflow {
+        return Err(TpmError::BufferOverflow {
             area: Area::None,
             offset: 0,
             needed: total,
             available: room,
-        });
+        }
+        .into());
     }
-    Total::Is(total)
+    Ok(total)
 }
 
 // What both writers judge, from the handles on: so many handle bytes, entries as they were found, so many parameter bytes. Three entries
@@ -205,40 +200,38 @@ pub(crate) fn judge(
     tag: u16,
     count: u8,
     handles: usize,
-    entries: Count,
+    entries: Result<usize, TpmError>,
     parameters: usize,
     room: usize,
-) -> Total
-    requires { (n : ℕ) → said_count entries ≡ gives n → n ≤ 393237 }
-    ensures { (limit width : ℕ) (h : Handed) → length h.handles ≡ handles → said_count entries ≡ entries_said limit width (length h.lent) (entries_of h.sessions) → length h.parameters ≡ parameters → said_total result ≡ judged limit width tag count h room }
+) -> Result<usize, WriteError>
+    requires { (n : ℕ) → said entries ≡ gives n → n ≤ 393237 }
+    ensures { (limit width : ℕ) (h : Handed) → length h.handles ≡ handles → said entries ≡ entries_said limit width (length h.lent) (entries_of h.sessions) → length h.parameters ≡ parameters → said_total result ≡ judged limit width tag count h room }
 {
     let needed = 4 * (count as usize);
     if handles < needed {
-        return common(TpmError::UnexpectedEnd {
+        return Err(TpmError::UnexpectedEnd {
             area: Area::None,
             offset: 0,
             needed,
             available: handles,
-        });
+        }
+        .into());
     }
     if needed < handles {
-        return common(TpmError::TrailingData {
+        return Err(TpmError::TrailingData {
             area: Area::None,
             offset: needed,
             actual: handles - needed,
+        }
+        .into());
+    }
+    let taken = entries?;
+    let total = capped_sum(HEADER_SIZE + needed + size_field(tag) + taken, parameters);
+    if LARGEST_SIZE < total {
+        return Err(WriteError::IntegerTooLarge {
+            offset: 0,
+            value: total as u64,
         });
     }
-    match entries {
-        Count::Refused(e) => common(e),
-        Count::Is(taken) => {
-            let total = capped_sum(HEADER_SIZE + needed + size_field(tag) + taken, parameters);
-            if LARGEST_SIZE < total {
-                return Total::Refused(WriteError::IntegerTooLarge {
-                    offset: 0,
-                    value: total as u64,
-                });
-            }
-            fits(total, room)
-        }
-    }
+    fits(total, room)
 }

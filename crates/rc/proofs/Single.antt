@@ -2,7 +2,6 @@
 -- Assumes nothing.
 use mathlib.Core.Path.{◌≡◌, refl, sym, ◌∙◌, ap}
 use Rattle.base.specs.Single.{Single}
-use Rattle.base.proofs.Refusals.{named_numbered}
 use Rattle.base.proofs.Answers.{said_injective}
 use Rattle.rc.proofs.known.base_known.Kinds as base-known-kinds
 use Rattle.rc.proofs.known.base_known.Reads as base-known-reads

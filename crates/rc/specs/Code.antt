@@ -1,8 +1,7 @@
 -- What a response code says (document 01, "Response code"; Part 2, TPM_RC and its format one), and the value of what is said.
 -- Assumes nothing: these are definitions.
-use Rattle.std.specs.Prelude.{ℕ, ◌+◌, ◌-◌, ◌*◌, ◌/◌, ◌%◌, Bool, ◌&&◌, cond, [], ◌∷◌, eqb, ltb}
+use Rattle.std.specs.Prelude.{ℕ, ◌+◌, ◌-◌, ◌*◌, ◌/◌, ◌%◌, Bool, ◌&&◌, cond, [], ◌∷◌, Option, Some, None, eqb, ltb}
 use Rattle.std.specs.Int.Bits.{bit_or}
-use Rattle.base.specs.Error.{numbered}
 use Rattle.base.specs.Said.{no_area, Said, gives, refuses, needs}
 use Rattle.rc.specs.declared.code.TpmRcBase.{TpmRcBase}
 use Rattle.rc.specs.declared.code.Code.{Code}
@@ -93,3 +92,7 @@ of_parts k.Parameter b n = Parameter (base b) n
 of_parts k.Handle b n = Handle (base b) n
 of_parts k.Session b n = Session (base b) n
 
+-- what was found of a value: its code, or none, which is refused
+abbrev pub found : ℕ → Option Code → Said Code
+found value (Some c) = gives c
+found value None = refuses (no_area (5 ∷ 0 ∷ value ∷ []))

@@ -1,19 +1,19 @@
 // A response code taken apart, and put together again.
 ghost use Rattle.std.specs.Prelude.{◌≡◌, ◌&&◌, ◌*◌, ◌%◌};
 ghost use Rattle.base.specs.Answer.{said};
-ghost use Rattle.rc.specs.Code.{base_of, bit, index_of, kind_number, kind_of, of_parts, read_code, read_fmt1, value_of};
+ghost use Rattle.rc.specs.Code.{base_of, bit, found, index_of, kind_number, kind_of, of_parts, read_code, read_fmt1, value_of};
 
 use crate::known::base_known;
 use base::code::TpmRc;
 use base::error::{Area, TpmError};
 
 // A base code. Reading gives known ones alone.
-#[derive(Clone, Copy)]
+#[derive(Clone, Copy, Debug, PartialEq, Eq)]
 pub struct TpmRcBase(pub u32);
 
 // What a response code says: format zero, an error or a warning; or format one, of no part, or of the parameter,
 // handle or session of a number.
-#[derive(Clone, Copy)]
+#[derive(Clone, Copy, Debug, PartialEq, Eq)]
 pub enum Code {
     Fmt0(TpmRcBase),
     Warn(TpmRcBase),
@@ -24,7 +24,7 @@ pub enum Code {
 }
 
 // The kinds of codes, in the order of the variants of Code.
-#[derive(Clone, Copy)]
+#[derive(Clone, Copy, Debug, PartialEq, Eq)]
 pub enum Kind {
     Fmt0,
     Warn,
@@ -34,64 +34,73 @@ pub enum Kind {
     Session,
 }
 
-// What a response code says. Bit 7 tells the format, and so it is looked at before the warning's bits.
+// What a response code says.
 pub fn read(rc: TpmRc) -> Result<Code, TpmError>
     ensures { said result ≡ read_code rc.0 }
 {
-    let value = rc.0;
+    code_of(rc.0).ok_or(rc.refused(Area::None, 0))
+}
+
+// The code of a value that has one. Bit 7 tells the format, and so it is looked at before the warning's bits.
+#[tactic(auto, unfolding(crate::specs::Code::read_code, crate::specs::Code::read_fmt0))]
+fn code_of(value: u32) -> Option<Code>
+    ensures { found value result ≡ read_code value }
+{
     if is_fmt1(value) {
-        return read_fmt1(rc);
-    }
-    if !base_known(value) {
-        return Err(rc.refused(Area::None, 0));
-    }
-    if is_warning(value) {
-        Ok(Code::Warn(TpmRcBase(value)))
+        fmt1_of(value)
+    } else if !base_known(value) {
+        None
+    } else if is_warning(value) {
+        Some(Code::Warn(TpmRcBase(value)))
     } else {
-        Ok(Code::Fmt0(TpmRcBase(value)))
+        Some(Code::Fmt0(TpmRcBase(value)))
     }
 }
 
 // Bit 7.
+#[tactic(auto, using(crate::proofs::Bits::masked))]
 fn is_fmt1(value: u32) -> bool
     ensures { result ≡ bit 128 value }
 {
-    value / 128 % 2 == 1
+    value & 0x80 != 0
 }
 
 // Bits 8 and 11.
+#[tactic(auto, using(crate::proofs::Bits::masked))]
 fn is_warning(value: u32) -> bool
     ensures { result ≡ (bit 256 value && bit 2048 value) }
 {
-    value / 256 % 2 == 1 && value / 2048 % 2 == 1
+    value & 0x100 != 0 && value & 0x800 != 0
 }
 
-// The same of a code whose bit 7 is set: bits 0 to 5 are the base's, bit 6 is P, bits 8 to 11 are N.
-fn read_fmt1(rc: TpmRc) -> Result<Code, TpmError>
-    ensures { said result ≡ read_fmt1 rc.0 }
+// P, bit 6.
+#[tactic(auto, using(crate::proofs::Bits::masked))]
+fn is_parameter(value: u32) -> bool
+    ensures { result ≡ bit 64 value }
 {
-    let value = rc.0;
+    value & 0x40 != 0
+}
+
+// The same of a value whose bit 7 is set: bits 0 to 5 are the base's, bit 6 is P, bits 8 to 11 are N.
+#[tactic(auto, unfolding(crate::specs::Code::read_fmt1, crate::specs::Code::read_index))]
+fn fmt1_of(value: u32) -> Option<Code>
+    ensures { found value result ≡ read_fmt1 value }
+{
     if value >= 4096 {
-        return Err(rc.refused(Area::None, 0));
+        return None;
     }
     let base = 128 + value % 64;
     if !base_known(base) {
-        return Err(rc.refused(Area::None, 0));
+        return None;
     }
-    let n = (value / 256 % 16) as u8;
-    if value / 64 % 2 == 1 {
-        if n == 0 {
-            return Err(rc.refused(Area::None, 0));
-        }
-        return Ok(Code::Parameter(TpmRcBase(base), n));
+    let base = TpmRcBase(base);
+    match (is_parameter(value), (value / 256 % 16) as u8) {
+        (true, 0) => None,
+        (true, n) => Some(Code::Parameter(base, n)),
+        (false, 0) => Some(Code::Fmt1(base)),
+        (false, n @ 1..=7) => Some(Code::Handle(base, n)),
+        (false, n) => Some(Code::Session(base, n - 8)),
     }
-    if n == 0 {
-        return Ok(Code::Fmt1(TpmRcBase(base)));
-    }
-    if n < 8 {
-        return Ok(Code::Handle(TpmRcBase(base), n));
-    }
-    Ok(Code::Session(TpmRcBase(base), n - 8))
 }
 
 impl Code {
@@ -128,12 +137,8 @@ impl Code {
         ensures { result ≡ index_of self }
     {
         match self {
-            Code::Fmt0(_) => 0,
-            Code::Warn(_) => 0,
-            Code::Fmt1(_) => 0,
-            Code::Parameter(_, n) => n,
-            Code::Handle(_, n) => n,
-            Code::Session(_, n) => n,
+            Code::Fmt0(_) | Code::Warn(_) | Code::Fmt1(_) => 0,
+            Code::Parameter(_, n) | Code::Handle(_, n) | Code::Session(_, n) => n,
         }
     }
 
@@ -142,9 +147,7 @@ impl Code {
         ensures { result ≡ value_of self }
     {
         match self {
-            Code::Fmt0(base) => base.0,
-            Code::Warn(base) => base.0,
-            Code::Fmt1(base) => base.0,
+            Code::Fmt0(base) | Code::Warn(base) | Code::Fmt1(base) => base.0,
             Code::Parameter(base, n) => base.0 | 64 | shifted(n as u32),
             Code::Handle(base, n) => base.0 | shifted(n as u32),
             Code::Session(base, n) => base.0 | shifted(n as u32 + 8),
@@ -156,12 +159,8 @@ impl Code {
         ensures { result.0 ≡ base_of self }
     {
         match self {
-            Code::Fmt0(base) => base,
-            Code::Warn(base) => base,
-            Code::Fmt1(base) => base,
-            Code::Parameter(base, _) => base,
-            Code::Handle(base, _) => base,
-            Code::Session(base, _) => base,
+            Code::Fmt0(base) | Code::Warn(base) | Code::Fmt1(base) => base,
+            Code::Parameter(base, _) | Code::Handle(base, _) | Code::Session(base, _) => base,
         }
     }
 }
@@ -171,14 +170,7 @@ impl Kind {
     pub fn number(self) -> u32
         ensures { result ≡ kind_number self }
     {
-        match self {
-            Kind::Fmt0 => 0,
-            Kind::Warn => 1,
-            Kind::Fmt1 => 2,
-            Kind::Parameter => 3,
-            Kind::Handle => 4,
-            Kind::Session => 5,
-        }
+        self as u32
     }
 }
 

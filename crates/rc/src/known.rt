@@ -32,19 +32,19 @@ fn grouped(code: u32) -> bool
 fn tpm12(code: u32) -> bool
     ensures { result ≡ in_some code tpm12 }
 {
-    match code {
+    matches!(
+        code,
         0x000..=0x000 // SUCCESS
         | 0x01E..=0x01E // BAD_TAG
-        => true,
-        _ => false,
-    }
+    )
 }
 
 // Format zero, errors: RC_VER1, 0x100.
 fn ver1(code: u32) -> bool
     ensures { result ≡ in_some code ver1 }
 {
-    match code {
+    matches!(
+        code,
         0x100..=0x101 // INITIALIZE to FAILURE
         | 0x103..=0x103 // SEQUENCE
         | 0x10B..=0x10B // PRIVATE
@@ -54,16 +54,15 @@ fn ver1(code: u32) -> bool
         | 0x12D..=0x131 // UPGRADE to UNBALANCED
         | 0x142..=0x14C // COMMAND_SIZE to NV_DEFINED
         | 0x150..=0x156 // BAD_CONTEXT to READ_ONLY
-        => true,
-        _ => false,
-    }
+    )
 }
 
 // Format one: RC_FMT1, 0x080.
 fn fmt1(code: u32) -> bool
     ensures { result ≡ in_some code fmt1 }
 {
-    match code {
+    matches!(
+        code,
         0x081..=0x085 // ASYMMETRIC to HIERARCHY
         | 0x087..=0x090 // KEY_SIZE to PP
         | 0x092..=0x092 // SCHEME
@@ -71,21 +70,18 @@ fn fmt1(code: u32) -> bool
         | 0x09A..=0x09D // INSUFFICIENT to POLICY_FAIL
         | 0x09F..=0x0A9 // INTEGRITY to SVN_LIMITED
         | 0x0B0..=0x0B1 // CHANNEL to CHANNEL_KEY
-        => true,
-        _ => false,
-    }
+    )
 }
 
 // Warnings: RC_WARN, 0x900.
 fn warn(code: u32) -> bool
     ensures { result ≡ in_some code warn }
 {
-    match code {
+    matches!(
+        code,
         0x901..=0x90A // CONTEXT_GAP to TESTING
         | 0x910..=0x916 // REFERENCE_H0 to REFERENCE_H6
         | 0x918..=0x91E // REFERENCE_S0 to REFERENCE_S6
         | 0x920..=0x923 // NV_RATE to NV_UNAVAILABLE
-        => true,
-        _ => false,
-    }
+    )
 }

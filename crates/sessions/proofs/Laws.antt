@@ -14,7 +14,8 @@ use prog.Memory.{Memory}
 use prog.Routine.{Routine}
 use types.Logic.{Logic}
 use contract.Monad.{Fun}
-use Rattle.base.specs.declared.answer.Total.{Total}
+use Rattle.std.specs.Prelude.{Result}
+use Rattle.base.specs.declared.error.WriteError.{WriteError}
 use Rattle.base.specs.Answer.{said_total}
 use Rattle.base.specs.Said.{no_area, Said, refuses}
 use Rattle.base.proofs.Facts.{PromisedBy, from_two}
@@ -80,13 +81,13 @@ module _ (book : Rulebook) (handles lent parameters : List ℕ) (room : ℕ) whe
 
 -- Of a call with the records ss, whose answer is x, and whose room was old and is then new. `of e` is what the writer by value says to the
 -- records e, and Tagged that the tag is the one for sessions, of which a response says nothing.
-pub record Takes (of : Entries → Said (List ℕ)) (ss : List Session) (Tagged : Type 0) (old : List ℕ) (x : Total) (new : List ℕ) : Type 0 where
+pub record Takes (of : Entries → Said (List ℕ)) (ss : List Session) (Tagged : Type 0) (old : List ℕ) (x : Result ℕ WriteError) (new : List ℕ) : Type 0 where
   -- more than three are refused by their number, and the room is as it was
   pub many : Tagged → 3 < length ss → Refused old x new (no_area (6 ∷ 0 ∷ 3 ∷ length ss ∷ []))
   -- at most three get the answer and the bytes that they get by value
   pub few : (e : Entries) → e.count ≤ 3 → entries_of e ≡ ss → (said_total x ≡ counted (of e)) × (new ≡ room_after old (of e))
 
-module _ (of : Entries → Said (List ℕ)) (ss : List Session) (Tagged : Type 0) (old : List ℕ) (x : Total) (new : List ℕ)
+module _ (of : Entries → Said (List ℕ)) (ss : List Session) (Tagged : Type 0) (old : List ℕ) (x : Result ℕ WriteError) (new : List ℕ)
     (answer : said_total x ≡ counted (of (by_value ss))) (bytes : new ≡ room_after old (of (by_value ss))) where
   takes : (Tagged → 3 < length ss → of (by_value ss) ≡ refuses (no_area (6 ∷ 0 ∷ 3 ∷ length ss ∷ [])))
       → ((e : Entries) → e.count ≤ 3 → entries_of e ≡ ss → of (by_value ss) ≡ of e) → Takes of ss Tagged old x new

@@ -7,8 +7,8 @@ ghost use Rattle.marshal.specs.Handed.{handed};
 ghost use Rattle.marshal.specs.Write.{counted, room_after, write_command};
 
 use crate::records::first_three;
-use base::answer::Total;
 use base::code::{TpmCc, TpmSt};
+use base::error::WriteError;
 use frame::rules::Rules;
 use frame::session::Session;
 
@@ -23,7 +23,7 @@ pub fn write(
     lent: &[u8],
     parameters: &[u8],
     room: &mut [u8],
-) -> Total
+) -> Result<usize, WriteError>
     ensures answer { said_total result ≡ counted (write_command (book_of rules) tag.0 cc.0 (handed handles.now (by_value sessions.now) lent.now parameters.now) (length room.old)) }
     ensures bytes { room.new ≡ room_after room.old (write_command (book_of rules) tag.0 cc.0 (handed handles.now (by_value sessions.now) lent.now parameters.now) (length room.old)) }
 {

@@ -7,8 +7,8 @@ ghost use Rattle.marshal.specs.Mode.{asked, book_for};
 ghost use Rattle.marshal.specs.Write.{counted, room_after, write_response};
 
 use crate::records::first_three;
-use base::answer::Total;
 use base::code::{TpmCc, TpmRc};
+use base::error::WriteError;
 use frame::session::Session;
 use marshal::mode::ResponseRules;
 
@@ -23,7 +23,7 @@ pub fn write(
     lent: &[u8],
     parameters: &[u8],
     room: &mut [u8],
-) -> Total
+) -> Result<usize, WriteError>
     ensures answer { said_total result ≡ counted (write_response (book_for rules) (asked rules) cc.0 rc.0 (handed handles.now (by_value sessions.now) lent.now parameters.now) (length room.old)) }
     ensures bytes { room.new ≡ room_after room.old (write_response (book_for rules) (asked rules) cc.0 rc.0 (handed handles.now (by_value sessions.now) lent.now parameters.now) (length room.old)) }
 {

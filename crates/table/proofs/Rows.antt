@@ -1,24 +1,25 @@
--- The search of a dispatch table, over any rows: where the parts have the row of a place, what the row at a place of rows that rise
--- strictly by code tells of the others, and what is known of the row that a search finds.
+-- The search of a dispatch table, over any rows: of rows that rise strictly by code the row at a place is the row of its code; a code that
+-- no row has is refused; and what is known of the row that a search finds.
 -- Assumes nothing.
 use mathlib.Core.Path.{◌≡◌, refl, sym, ◌∙◌, ap}
 use mathlib.Core.Bool.{Bool, true, false, ◌&&◌, ◌||◌, cond, and-eq-true_iff}
 use mathlib.Core.List.{List, [], ◌∷◌}
 use mathlib.Core.Logic.{⊎_elim}
-use Prim.Native.Nat.{ℕ, zero, suc, ◌+◌, ◌*◌, ◌/◌, ◌%◌, ◌≤◌, ◌<◌, zero-le, suc-le-suc}
-use native.Mathlib.Nat.{le_of_suc-le-suc, not-suc-le-zero, le_refl, lt_of_not-le}
+use Prim.Native.Nat.{ℕ, zero, suc, ◌+◌, ◌*◌, ◌/◌, ◌%◌, ◌≤◌, ◌<◌}
+use native.Mathlib.Nat.{le_of_suc-le-suc, not-suc-le-zero}
 use native.Mathlib.Omega.{arith}
 use borrow.Author.Tests.{ltb-true, leb-true, eq-eqb, ne_eqb}
 use lib.Dec.{eqb, leb}
 use lib.ListN.{length, get_or, drop}
 use lib.Seq.{get_or-take, get_or-drop}
+use Rattle.std.proofs.lemmas.Bool.{or_parts}
 use Rattle.base.specs.Members.{is_in}
 use Rattle.base.specs.Said.{no_area, Said, gives, refuses, given}
 use Rattle.base.proofs.Checks.{gives≢refuses, gives_injective, cond_gives}
 use Rattle.table.specs.declared.row.Row.{Row}
-use Rattle.table.specs.Table.{row_for, codes, below_first, rising, few, IsTable, part, none, code_at, Between}
+use Rattle.table.specs.Table.{row_for, codes, below_first, rising, few, IsTable, part, none, code_at}
 
--- the row at a place stands in the part of its four
+-- rows in parts of four: the row at a place stands in the part of its four
 pub in_part : (rows : List Row) (k place : ℕ) → place / 4 ≡ k → get_or (part rows k) (place % 4) none ≡ get_or rows place none
 in_part rows k place e =
     let here : 4 * k + place % 4 ≡ place = omega arith in
@@ -44,17 +45,6 @@ below_each code (r ∷ rows) b e (suc j) h =
 above_first : (r : Row) (rows : List Row) → rising (r ∷ rows) ≡ true → (j : ℕ) → j < length rows → r.code < code_at rows j
 above_first r rows e = below_each r.code rows (next_and_rest r rows e).0 (next_and_rest r rows e).1
 
--- no code is above a later one
-pub codes_ordered : (rows : List Row) → rising rows ≡ true → (i j : ℕ) → i ≤ j → j < length rows → code_at rows i ≤ code_at rows j
-codes_ordered [] e i j h k = absurd (not-suc-le-zero k)
-codes_ordered (r ∷ rows) e zero zero h k = le_refl r.code
-codes_ordered (r ∷ rows) e zero (suc j) h k =
-    let above = above_first r rows e j (le_of_suc-le-suc k) in
-    omega arith
-codes_ordered (r ∷ rows) e (suc i) zero h k = absurd (not-suc-le-zero h)
-codes_ordered (r ∷ rows) e (suc i) (suc j) h k =
-    codes_ordered rows (next_and_rest r rows e).1 i j (le_of_suc-le-suc h) (le_of_suc-le-suc k)
-
 -- the row at a place is the row of its code
 pub row_at : (rows : List Row) → rising rows ≡ true → (i : ℕ) → i < length rows → gives (get_or rows i none) ≡ row_for rows (code_at rows i)
 row_at [] e i h = absurd (not-suc-le-zero h)
@@ -68,45 +58,12 @@ pub row_here : (rows : List Row) → rising rows ≡ true → (i : ℕ) → i < 
     → r.code ≡ code → gives r ≡ row_for rows code
 row_here rows e i h read t = ap gives read ∙ row_at rows e i h ∙ ap (row_for rows) (sym (ap (λ (r : Row). r.code) read) ∙ t)
 
--- a code that stands at no place is refused
-pub no_row : (rows : List Row) (code : ℕ) → ((k : ℕ) → k < length rows → code ≡ code_at rows k → ⊥)
-    → refuses (no_area (4 ∷ 0 ∷ code ∷ [])) ≡ row_for rows code
+-- a code that no row has is refused
+pub no_row : (rows : List Row) (code : ℕ) → is_in code (codes rows) ≡ false → refuses (no_area (4 ∷ 0 ∷ code ∷ [])) ≡ row_for rows code
 no_row [] code h = refl
 no_row (r ∷ rows) code h =
-    simp (ne_eqb code r.code (h 0 (suc-le-suc zero-le))) (no_row rows code (λ k l. h (suc k) (suc-le-suc l)))
-
--- all the rows
-pub between_all : (rows : List Row) (code : ℕ) → Between rows code 0 (length rows)
-between_all rows code = record {
-  inside = le_refl (length rows);
-  before = λ k l. absurd (not-suc-le-zero l);
-  behind = λ k l h. absurd (omega arith);
-}
-
-module _ {rows : List Row} {code lo hi : ℕ} (b : Between rows code lo hi) where
-  -- the ends have met
-  pub between_none : hi ≤ lo → refuses (no_area (4 ∷ 0 ∷ code ∷ [])) ≡ row_for rows code
-  between_none h =
-      no_row rows code (λ k l e.
-      let past = lt_of_not-le (λ (s : k < lo). let low = b.before k s in omega arith) in
-      let high = b.behind k (omega arith) l in
-      omega arith)
-
-  -- the row at a place between them settles all on one side of it
-  module _ (e : rising rows ≡ true) (m : ℕ) (h : m < hi) where
-    pub between_above : code_at rows m < code → Between rows code (m + 1) hi
-    between_above t = record {
-      inside = b.inside;
-      before = λ k l. let low = codes_ordered rows e k m (omega arith) (omega arith) in omega arith;
-      behind = b.behind;
-    }
-
-    pub between_below : code < code_at rows m → Between rows code lo m
-    between_below t = record {
-      inside = omega arith;
-      before = b.before;
-      behind = λ k l s. let high = codes_ordered rows e m k l s in omega arith;
-    }
+    let both = or_parts (eqb code r.code) (is_in code (codes rows)) h in
+    rw both.0 (no_row rows code both.1)
 
 -- what is given by one row or by the others
 given_or : (t : Bool) (r : Row) (s : Said Row) (b : Bool) → given s ≡ b → given (cond t (gives r) s) ≡ (t || b)

@@ -2,7 +2,7 @@
 -- crate's TPM_DISPATCH_TABLE, and those of the Library's revisions 1.38 and 1.59 (document 02, W10). The definitions above take any
 -- rows; these are the ones that a caller can name.
 -- Assumes nothing: these are definitions.
-use Rattle.std.specs.Prelude.{ℕ, Bool, true, false, List, [], ◌∷◌, ◌++◌}
+use Rattle.std.specs.Prelude.{ℕ, ◌-◌, cond, leb, List, [], ◌∷◌, ◌++◌}
 use Rattle.table.specs.declared.revision.Revision.{Revision}
 use Rattle.table.specs.declared.revision.Revision.TheVariants as revision
 use Rattle.table.specs.declared.row.Row.{Row}
@@ -57,14 +57,21 @@ table_of revision = shared ++ own revision
 abbrev pub codes_of : Revision → List ℕ
 codes_of revision = codes (table_of revision)
 
--- ---- which table it is, for the search
+-- ---- where the code looks
 
-abbrev pub is_crate : Revision → Bool
-is_crate revision.Crate = true
-is_crate revision.Lib138 = false
-is_crate revision.Lib159 = false
+-- the place of a code's row, if it has one: as far from the first row as the code is from the first code, less the codes on the way that
+-- have no row; another place if it has none
+abbrev own_place : Revision → ℕ → ℕ
+own_place revision.Crate code = cond (leb 0x1a2 code) 125 (cond (leb 0x197 code) (code - 0x125) (code - 0x124))
+own_place revision.Lib138 code = 112
+own_place revision.Lib159 code = cond (leb 0x199 code) 117 (code - 0x124)
 
-abbrev pub is138 : Revision → Bool
-is138 revision.Crate = false
-is138 revision.Lib138 = true
-is138 revision.Lib159 = false
+abbrev pub place_of : Revision → ℕ → ℕ
+place_of revision code =
+    cond (leb 0x194 code) (own_place revision code)
+    (cond (leb 0x175 code) (code - 0x124)
+    (cond (leb 0x166 code) (code - 0x123)
+    (cond (leb 0x15f code) (code - 0x122)
+    (cond (leb 0x15a code) (code - 0x121)
+    (cond (leb 0x123 code) (code - 0x120)
+    (cond (leb 0x11f code) (code - 0x11f) 0))))))

@@ -1,7 +1,7 @@
 -- A dispatch table, over any rows (document 01, "Layout", "Order of checks"). A row is the struct of src/row.rt: a code, its
 -- handles and its response handles.
 -- Assumes nothing: these are definitions.
-use Rattle.std.specs.Prelude.{ℕ, ◌*◌, ◌≤◌, ◌<◌, Bool, true, false, not, ◌&&◌, cond, List, [], ◌∷◌, ◌≡◌, eqb, leb, ltb, length, get_or, take, drop}
+use Rattle.std.specs.Prelude.{ℕ, ◌*◌, Bool, true, false, not, ◌&&◌, cond, List, [], ◌∷◌, ◌≡◌, eqb, leb, ltb, get_or, take, drop}
 use Rattle.base.specs.Members.{is_in}
 use Rattle.base.specs.Said.{no_area, Said, gives, refuses}
 use Rattle.table.specs.declared.row.Row.{Row}
@@ -63,7 +63,7 @@ same_counts (refuses why) said = false
 abbrev pub apart : List Row → List Row → List ℕ
 apart rows others = those (λ code. not (same_counts (row_for rows code) (row_for others code))) (codes rows)
 
--- ---- how the code holds and searches rows
+-- ---- rows by their places
 
 -- in parts of four, counted from 0; and what stands at a place past the last one
 abbrev pub part : List Row → ℕ → List Row
@@ -75,13 +75,3 @@ none = row 0 0 0
 -- the code at a place
 abbrev pub code_at : List Row → ℕ → ℕ
 code_at rows i = (get_or rows i none).code
-
--- the row of a code stands from lo to before hi, if anywhere
-pub record Between (rows : List Row) (code lo hi : ℕ) : Type 0 where
-  pub inside : hi ≤ length rows
-  pub before : (k : ℕ) → k < lo → code_at rows k < code
-  pub behind : (k : ℕ) → hi ≤ k → k < length rows → code < code_at rows k
-
--- a search begins between two ends, at a place there
-abbrev pub Begins : List Row → ℕ → ℕ → ℕ → ℕ → Type 0
-Begins rows code lo hi place = Between rows code lo hi × (lo ≤ place) × (place < hi)

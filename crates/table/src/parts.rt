@@ -1,1070 +1,185 @@
-// The rows of the tables, strictly rising by code, in parts of four: a constant is laid out anew on the stack wherever it is used, so
-// that a look at one row lays out the four of its part and no more. The first 112 rows are those of every table; behind them each
-// table has its own.
+// The rows of the tables, strictly rising by code. The first 112 are those of every table; behind them each table has its own.
 ghost use Rattle.std.specs.Prelude.{◌≡◌, ◌<◌, get_or, length};
-ghost use Rattle.table.specs.Dispatch.{own, shared, table_of};
-ghost use Rattle.table.specs.Table.{none, part};
+ghost use Rattle.table.specs.Dispatch.{own, table_of};
+ghost use Rattle.table.specs.Table.{none};
 
 use crate::revision::Revision;
 use crate::row::Row;
 
-const AC_GET_CAPABILITY: Row = Row {
-    code: 0x194,
-    handles: 1,
-    responses: 0,
-};
+// A command's code, its handles and those of its response (Part 3), on a line.
+macro_rules! row {
+    ($code:literal, $handles:literal, $responses:literal) => {
+        Row {
+            code: $code,
+            handles: $handles,
+            responses: $responses,
+        }
+    };
+}
 
-const AC_SEND: Row = Row {
-    code: 0x195,
-    handles: 3,
-    responses: 0,
-};
-
-const POLICY_AC_SEND_SELECT: Row = Row {
-    code: 0x196,
-    handles: 1,
-    responses: 0,
-};
-
-const ACT_SET_TIMEOUT: Row = Row {
-    code: 0x198,
-    handles: 1,
-    responses: 0,
-};
-
-const VENDOR: Row = Row {
-    code: 0x20000000,
-    handles: 0,
-    responses: 0,
-};
-
-const FROM_11F: [Row; 4] = [
-    Row {
-        code: 0x11f,
-        handles: 2,
-        responses: 0,
-    },
-    Row {
-        code: 0x120,
-        handles: 2,
-        responses: 0,
-    },
-    Row {
-        code: 0x121,
-        handles: 1,
-        responses: 0,
-    },
-    Row {
-        code: 0x122,
-        handles: 2,
-        responses: 0,
-    },
+static SHARED: [Row; 112] = [
+    row!(0x11f, 2, 0), // NV_UndefineSpaceSpecial
+    row!(0x120, 2, 0), // EvictControl
+    row!(0x121, 1, 0), // HierarchyControl
+    row!(0x122, 2, 0), // NV_UndefineSpace
+    row!(0x124, 1, 0), // ChangeEPS
+    row!(0x125, 1, 0), // ChangePPS
+    row!(0x126, 1, 0), // Clear
+    row!(0x127, 1, 0), // ClearControl
+    row!(0x128, 1, 0), // ClockSet
+    row!(0x129, 1, 0), // HierarchyChangeAuth
+    row!(0x12a, 1, 0), // NV_DefineSpace
+    row!(0x12b, 1, 0), // PCR_Allocate
+    row!(0x12c, 1, 0), // PCR_SetAuthPolicy
+    row!(0x12d, 1, 0), // PP_Commands
+    row!(0x12e, 1, 0), // SetPrimaryPolicy
+    row!(0x12f, 2, 0), // FieldUpgradeStart
+    row!(0x130, 1, 0), // ClockRateAdjust
+    row!(0x131, 1, 1), // CreatePrimary
+    row!(0x132, 1, 0), // NV_GlobalWriteLock
+    row!(0x133, 2, 0), // GetCommandAuditDigest
+    row!(0x134, 2, 0), // NV_Increment
+    row!(0x135, 2, 0), // NV_SetBits
+    row!(0x136, 2, 0), // NV_Extend
+    row!(0x137, 2, 0), // NV_Write
+    row!(0x138, 2, 0), // NV_WriteLock
+    row!(0x139, 1, 0), // DictionaryAttackLockReset
+    row!(0x13a, 1, 0), // DictionaryAttackParameters
+    row!(0x13b, 1, 0), // NV_ChangeAuth
+    row!(0x13c, 1, 0), // PCR_Event
+    row!(0x13d, 1, 0), // PCR_Reset
+    row!(0x13e, 1, 0), // SequenceComplete
+    row!(0x13f, 1, 0), // SetAlgorithmSet
+    row!(0x140, 1, 0), // SetCommandCodeAuditStatus
+    row!(0x141, 0, 0), // FieldUpgradeData
+    row!(0x142, 0, 0), // IncrementalSelfTest
+    row!(0x143, 0, 0), // SelfTest
+    row!(0x144, 0, 0), // Startup
+    row!(0x145, 0, 0), // Shutdown
+    row!(0x146, 0, 0), // StirRandom
+    row!(0x147, 2, 0), // ActivateCredential
+    row!(0x148, 2, 0), // Certify
+    row!(0x149, 3, 0), // PolicyNV
+    row!(0x14a, 2, 0), // CertifyCreation
+    row!(0x14b, 2, 0), // Duplicate
+    row!(0x14c, 2, 0), // GetTime
+    row!(0x14d, 3, 0), // GetSessionAuditDigest
+    row!(0x14e, 2, 0), // NV_Read
+    row!(0x14f, 2, 0), // NV_ReadLock
+    row!(0x150, 2, 0), // ObjectChangeAuth
+    row!(0x151, 2, 0), // PolicySecret
+    row!(0x152, 2, 0), // Rewrap
+    row!(0x153, 1, 0), // Create
+    row!(0x154, 1, 0), // ECDH_ZGen
+    row!(0x155, 1, 0), // HMAC
+    row!(0x156, 1, 0), // Import
+    row!(0x157, 1, 1), // Load
+    row!(0x158, 1, 0), // Quote
+    row!(0x159, 1, 0), // RSA_Decrypt
+    row!(0x15b, 1, 1), // HMAC_Start
+    row!(0x15c, 1, 0), // SequenceUpdate
+    row!(0x15d, 1, 0), // Sign
+    row!(0x15e, 1, 0), // Unseal
+    row!(0x160, 2, 0), // PolicySigned
+    row!(0x161, 0, 1), // ContextLoad
+    row!(0x162, 1, 0), // ContextSave
+    row!(0x163, 1, 0), // ECDH_KeyGen
+    row!(0x164, 1, 0), // EncryptDecrypt
+    row!(0x165, 0, 0), // FlushContext
+    row!(0x167, 0, 1), // LoadExternal
+    row!(0x168, 1, 0), // MakeCredential
+    row!(0x169, 1, 0), // NV_ReadPublic
+    row!(0x16a, 1, 0), // PolicyAuthorize
+    row!(0x16b, 1, 0), // PolicyAuthValue
+    row!(0x16c, 1, 0), // PolicyCommandCode
+    row!(0x16d, 1, 0), // PolicyCounterTimer
+    row!(0x16e, 1, 0), // PolicyCpHash
+    row!(0x16f, 1, 0), // PolicyLocality
+    row!(0x170, 1, 0), // PolicyNameHash
+    row!(0x171, 1, 0), // PolicyOR
+    row!(0x172, 1, 0), // PolicyTicket
+    row!(0x173, 1, 0), // ReadPublic
+    row!(0x174, 1, 0), // RSA_Encrypt
+    row!(0x176, 2, 1), // StartAuthSession
+    row!(0x177, 1, 0), // VerifySignature
+    row!(0x178, 0, 0), // ECC_Parameters
+    row!(0x179, 0, 0), // FirmwareRead
+    row!(0x17a, 0, 0), // GetCapability
+    row!(0x17b, 0, 0), // GetRandom
+    row!(0x17c, 0, 0), // GetTestResult
+    row!(0x17d, 0, 0), // Hash
+    row!(0x17e, 0, 0), // PCR_Read
+    row!(0x17f, 1, 0), // PolicyPCR
+    row!(0x180, 1, 0), // PolicyRestart
+    row!(0x181, 0, 0), // ReadClock
+    row!(0x182, 1, 0), // PCR_Extend
+    row!(0x183, 1, 0), // PCR_SetAuthValue
+    row!(0x184, 3, 0), // NV_Certify
+    row!(0x185, 2, 0), // EventSequenceComplete
+    row!(0x186, 0, 1), // HashSequenceStart
+    row!(0x187, 1, 0), // PolicyPhysicalPresence
+    row!(0x188, 1, 0), // PolicyDuplicationSelect
+    row!(0x189, 1, 0), // PolicyGetDigest
+    row!(0x18a, 0, 0), // TestParms
+    row!(0x18b, 1, 0), // Commit
+    row!(0x18c, 1, 0), // PolicyPassword
+    row!(0x18d, 1, 0), // ZGen_2Phase
+    row!(0x18e, 0, 0), // EC_Ephemeral
+    row!(0x18f, 1, 0), // PolicyNvWritten
+    row!(0x190, 1, 0), // PolicyTemplate
+    row!(0x191, 1, 1), // CreateLoaded
+    row!(0x192, 3, 0), // PolicyAuthorizeNV
+    row!(0x193, 1, 0), // EncryptDecrypt2
 ];
 
-const FROM_124: [Row; 4] = [
-    Row {
-        code: 0x124,
-        handles: 1,
-        responses: 0,
-    },
-    Row {
-        code: 0x125,
-        handles: 1,
-        responses: 0,
-    },
-    Row {
-        code: 0x126,
-        handles: 1,
-        responses: 0,
-    },
-    Row {
-        code: 0x127,
-        handles: 1,
-        responses: 0,
-    },
+static CRATE: [Row; 14] = [
+    row!(0x194, 1, 0), // AC_GetCapability
+    row!(0x195, 3, 0), // AC_Send
+    row!(0x196, 1, 0), // Policy_AC_SendSelect
+    row!(0x198, 1, 0), // ACT_SetTimeout
+    row!(0x199, 1, 0), // ECC_Encrypt
+    row!(0x19a, 1, 0), // ECC_Decrypt
+    row!(0x19b, 1, 0), // PolicyCapability
+    row!(0x19c, 1, 0), // PolicyParameters
+    row!(0x19d, 1, 0), // NV_DefineSpace2
+    row!(0x19e, 1, 0), // NV_ReadPublic2
+    row!(0x19f, 1, 0), // SetCapability
+    row!(0x1a0, 1, 0), // ReadOnlyControl
+    row!(0x1a1, 1, 0), // Policy_TransportSPDM
+    row!(0x20000000, 0, 0), // Vendor_TCG_Test
 ];
 
-const FROM_128: [Row; 4] = [
-    Row {
-        code: 0x128,
-        handles: 1,
-        responses: 0,
-    },
-    Row {
-        code: 0x129,
-        handles: 1,
-        responses: 0,
-    },
-    Row {
-        code: 0x12a,
-        handles: 1,
-        responses: 0,
-    },
-    Row {
-        code: 0x12b,
-        handles: 1,
-        responses: 0,
-    },
+// Vendor_TCG_Test alone
+static LIB138: [Row; 1] = [row!(0x20000000, 0, 0)];
+
+static LIB159: [Row; 6] = [
+    row!(0x194, 1, 0), // AC_GetCapability
+    row!(0x195, 3, 0), // AC_Send
+    row!(0x196, 1, 0), // Policy_AC_SendSelect
+    row!(0x197, 2, 0), // CertifyX509
+    row!(0x198, 1, 0), // ACT_SetTimeout
+    row!(0x20000000, 0, 0), // Vendor_TCG_Test
 ];
 
-const FROM_12C: [Row; 4] = [
-    Row {
-        code: 0x12c,
-        handles: 1,
-        responses: 0,
-    },
-    Row {
-        code: 0x12d,
-        handles: 1,
-        responses: 0,
-    },
-    Row {
-        code: 0x12e,
-        handles: 1,
-        responses: 0,
-    },
-    Row {
-        code: 0x12f,
-        handles: 2,
-        responses: 0,
-    },
-];
-
-const FROM_130: [Row; 4] = [
-    Row {
-        code: 0x130,
-        handles: 1,
-        responses: 0,
-    },
-    Row {
-        code: 0x131,
-        handles: 1,
-        responses: 1,
-    },
-    Row {
-        code: 0x132,
-        handles: 1,
-        responses: 0,
-    },
-    Row {
-        code: 0x133,
-        handles: 2,
-        responses: 0,
-    },
-];
-
-const FROM_134: [Row; 4] = [
-    Row {
-        code: 0x134,
-        handles: 2,
-        responses: 0,
-    },
-    Row {
-        code: 0x135,
-        handles: 2,
-        responses: 0,
-    },
-    Row {
-        code: 0x136,
-        handles: 2,
-        responses: 0,
-    },
-    Row {
-        code: 0x137,
-        handles: 2,
-        responses: 0,
-    },
-];
-
-const FROM_138: [Row; 4] = [
-    Row {
-        code: 0x138,
-        handles: 2,
-        responses: 0,
-    },
-    Row {
-        code: 0x139,
-        handles: 1,
-        responses: 0,
-    },
-    Row {
-        code: 0x13a,
-        handles: 1,
-        responses: 0,
-    },
-    Row {
-        code: 0x13b,
-        handles: 1,
-        responses: 0,
-    },
-];
-
-const FROM_13C: [Row; 4] = [
-    Row {
-        code: 0x13c,
-        handles: 1,
-        responses: 0,
-    },
-    Row {
-        code: 0x13d,
-        handles: 1,
-        responses: 0,
-    },
-    Row {
-        code: 0x13e,
-        handles: 1,
-        responses: 0,
-    },
-    Row {
-        code: 0x13f,
-        handles: 1,
-        responses: 0,
-    },
-];
-
-const FROM_140: [Row; 4] = [
-    Row {
-        code: 0x140,
-        handles: 1,
-        responses: 0,
-    },
-    Row {
-        code: 0x141,
-        handles: 0,
-        responses: 0,
-    },
-    Row {
-        code: 0x142,
-        handles: 0,
-        responses: 0,
-    },
-    Row {
-        code: 0x143,
-        handles: 0,
-        responses: 0,
-    },
-];
-
-const FROM_144: [Row; 4] = [
-    Row {
-        code: 0x144,
-        handles: 0,
-        responses: 0,
-    },
-    Row {
-        code: 0x145,
-        handles: 0,
-        responses: 0,
-    },
-    Row {
-        code: 0x146,
-        handles: 0,
-        responses: 0,
-    },
-    Row {
-        code: 0x147,
-        handles: 2,
-        responses: 0,
-    },
-];
-
-const FROM_148: [Row; 4] = [
-    Row {
-        code: 0x148,
-        handles: 2,
-        responses: 0,
-    },
-    Row {
-        code: 0x149,
-        handles: 3,
-        responses: 0,
-    },
-    Row {
-        code: 0x14a,
-        handles: 2,
-        responses: 0,
-    },
-    Row {
-        code: 0x14b,
-        handles: 2,
-        responses: 0,
-    },
-];
-
-const FROM_14C: [Row; 4] = [
-    Row {
-        code: 0x14c,
-        handles: 2,
-        responses: 0,
-    },
-    Row {
-        code: 0x14d,
-        handles: 3,
-        responses: 0,
-    },
-    Row {
-        code: 0x14e,
-        handles: 2,
-        responses: 0,
-    },
-    Row {
-        code: 0x14f,
-        handles: 2,
-        responses: 0,
-    },
-];
-
-const FROM_150: [Row; 4] = [
-    Row {
-        code: 0x150,
-        handles: 2,
-        responses: 0,
-    },
-    Row {
-        code: 0x151,
-        handles: 2,
-        responses: 0,
-    },
-    Row {
-        code: 0x152,
-        handles: 2,
-        responses: 0,
-    },
-    Row {
-        code: 0x153,
-        handles: 1,
-        responses: 0,
-    },
-];
-
-const FROM_154: [Row; 4] = [
-    Row {
-        code: 0x154,
-        handles: 1,
-        responses: 0,
-    },
-    Row {
-        code: 0x155,
-        handles: 1,
-        responses: 0,
-    },
-    Row {
-        code: 0x156,
-        handles: 1,
-        responses: 0,
-    },
-    Row {
-        code: 0x157,
-        handles: 1,
-        responses: 1,
-    },
-];
-
-const FROM_158: [Row; 4] = [
-    Row {
-        code: 0x158,
-        handles: 1,
-        responses: 0,
-    },
-    Row {
-        code: 0x159,
-        handles: 1,
-        responses: 0,
-    },
-    Row {
-        code: 0x15b,
-        handles: 1,
-        responses: 1,
-    },
-    Row {
-        code: 0x15c,
-        handles: 1,
-        responses: 0,
-    },
-];
-
-const FROM_15D: [Row; 4] = [
-    Row {
-        code: 0x15d,
-        handles: 1,
-        responses: 0,
-    },
-    Row {
-        code: 0x15e,
-        handles: 1,
-        responses: 0,
-    },
-    Row {
-        code: 0x160,
-        handles: 2,
-        responses: 0,
-    },
-    Row {
-        code: 0x161,
-        handles: 0,
-        responses: 1,
-    },
-];
-
-const FROM_162: [Row; 4] = [
-    Row {
-        code: 0x162,
-        handles: 1,
-        responses: 0,
-    },
-    Row {
-        code: 0x163,
-        handles: 1,
-        responses: 0,
-    },
-    Row {
-        code: 0x164,
-        handles: 1,
-        responses: 0,
-    },
-    Row {
-        code: 0x165,
-        handles: 0,
-        responses: 0,
-    },
-];
-
-const FROM_167: [Row; 4] = [
-    Row {
-        code: 0x167,
-        handles: 0,
-        responses: 1,
-    },
-    Row {
-        code: 0x168,
-        handles: 1,
-        responses: 0,
-    },
-    Row {
-        code: 0x169,
-        handles: 1,
-        responses: 0,
-    },
-    Row {
-        code: 0x16a,
-        handles: 1,
-        responses: 0,
-    },
-];
-
-const FROM_16B: [Row; 4] = [
-    Row {
-        code: 0x16b,
-        handles: 1,
-        responses: 0,
-    },
-    Row {
-        code: 0x16c,
-        handles: 1,
-        responses: 0,
-    },
-    Row {
-        code: 0x16d,
-        handles: 1,
-        responses: 0,
-    },
-    Row {
-        code: 0x16e,
-        handles: 1,
-        responses: 0,
-    },
-];
-
-const FROM_16F: [Row; 4] = [
-    Row {
-        code: 0x16f,
-        handles: 1,
-        responses: 0,
-    },
-    Row {
-        code: 0x170,
-        handles: 1,
-        responses: 0,
-    },
-    Row {
-        code: 0x171,
-        handles: 1,
-        responses: 0,
-    },
-    Row {
-        code: 0x172,
-        handles: 1,
-        responses: 0,
-    },
-];
-
-const FROM_173: [Row; 4] = [
-    Row {
-        code: 0x173,
-        handles: 1,
-        responses: 0,
-    },
-    Row {
-        code: 0x174,
-        handles: 1,
-        responses: 0,
-    },
-    Row {
-        code: 0x176,
-        handles: 2,
-        responses: 1,
-    },
-    Row {
-        code: 0x177,
-        handles: 1,
-        responses: 0,
-    },
-];
-
-const FROM_178: [Row; 4] = [
-    Row {
-        code: 0x178,
-        handles: 0,
-        responses: 0,
-    },
-    Row {
-        code: 0x179,
-        handles: 0,
-        responses: 0,
-    },
-    Row {
-        code: 0x17a,
-        handles: 0,
-        responses: 0,
-    },
-    Row {
-        code: 0x17b,
-        handles: 0,
-        responses: 0,
-    },
-];
-
-const FROM_17C: [Row; 4] = [
-    Row {
-        code: 0x17c,
-        handles: 0,
-        responses: 0,
-    },
-    Row {
-        code: 0x17d,
-        handles: 0,
-        responses: 0,
-    },
-    Row {
-        code: 0x17e,
-        handles: 0,
-        responses: 0,
-    },
-    Row {
-        code: 0x17f,
-        handles: 1,
-        responses: 0,
-    },
-];
-
-const FROM_180: [Row; 4] = [
-    Row {
-        code: 0x180,
-        handles: 1,
-        responses: 0,
-    },
-    Row {
-        code: 0x181,
-        handles: 0,
-        responses: 0,
-    },
-    Row {
-        code: 0x182,
-        handles: 1,
-        responses: 0,
-    },
-    Row {
-        code: 0x183,
-        handles: 1,
-        responses: 0,
-    },
-];
-
-const FROM_184: [Row; 4] = [
-    Row {
-        code: 0x184,
-        handles: 3,
-        responses: 0,
-    },
-    Row {
-        code: 0x185,
-        handles: 2,
-        responses: 0,
-    },
-    Row {
-        code: 0x186,
-        handles: 0,
-        responses: 1,
-    },
-    Row {
-        code: 0x187,
-        handles: 1,
-        responses: 0,
-    },
-];
-
-const FROM_188: [Row; 4] = [
-    Row {
-        code: 0x188,
-        handles: 1,
-        responses: 0,
-    },
-    Row {
-        code: 0x189,
-        handles: 1,
-        responses: 0,
-    },
-    Row {
-        code: 0x18a,
-        handles: 0,
-        responses: 0,
-    },
-    Row {
-        code: 0x18b,
-        handles: 1,
-        responses: 0,
-    },
-];
-
-const FROM_18C: [Row; 4] = [
-    Row {
-        code: 0x18c,
-        handles: 1,
-        responses: 0,
-    },
-    Row {
-        code: 0x18d,
-        handles: 1,
-        responses: 0,
-    },
-    Row {
-        code: 0x18e,
-        handles: 0,
-        responses: 0,
-    },
-    Row {
-        code: 0x18f,
-        handles: 1,
-        responses: 0,
-    },
-];
-
-const FROM_190: [Row; 4] = [
-    Row {
-        code: 0x190,
-        handles: 1,
-        responses: 0,
-    },
-    Row {
-        code: 0x191,
-        handles: 1,
-        responses: 1,
-    },
-    Row {
-        code: 0x192,
-        handles: 3,
-        responses: 0,
-    },
-    Row {
-        code: 0x193,
-        handles: 1,
-        responses: 0,
-    },
-];
-
-const CRATE_0: [Row; 4] = [
-    AC_GET_CAPABILITY,
-    AC_SEND,
-    POLICY_AC_SEND_SELECT,
-    ACT_SET_TIMEOUT,
-];
-
-const CRATE_1: [Row; 4] = [
-    Row {
-        code: 0x199,
-        handles: 1,
-        responses: 0,
-    },
-    Row {
-        code: 0x19a,
-        handles: 1,
-        responses: 0,
-    },
-    Row {
-        code: 0x19b,
-        handles: 1,
-        responses: 0,
-    },
-    Row {
-        code: 0x19c,
-        handles: 1,
-        responses: 0,
-    },
-];
-
-const CRATE_2: [Row; 4] = [
-    Row {
-        code: 0x19d,
-        handles: 1,
-        responses: 0,
-    },
-    Row {
-        code: 0x19e,
-        handles: 1,
-        responses: 0,
-    },
-    Row {
-        code: 0x19f,
-        handles: 1,
-        responses: 0,
-    },
-    Row {
-        code: 0x1a0,
-        handles: 1,
-        responses: 0,
-    },
-];
-
-const CRATE_3: [Row; 2] = [
-    Row {
-        code: 0x1a1,
-        handles: 1,
-        responses: 0,
-    },
-    VENDOR,
-];
-
-const LIB159_0: [Row; 4] = [
-    AC_GET_CAPABILITY,
-    AC_SEND,
-    POLICY_AC_SEND_SELECT,
-    Row {
-        code: 0x197,
-        handles: 2,
-        responses: 0,
-    },
-];
-
-const LIB159_1: [Row; 2] = [ACT_SET_TIMEOUT, VENDOR];
-
-const LIB138_0: [Row; 1] = [VENDOR];
-
-// The row at a place of each part. A constant is laid out where the function that uses it starts, so each has its own.
-fn from_11f(i: usize) -> Row
-    requires { i < 4 }
-    ensures { result ≡ get_or (part shared 0) i none }
-{
-    FROM_11F[i]
-}
-
-fn from_124(i: usize) -> Row
-    requires { i < 4 }
-    ensures { result ≡ get_or (part shared 1) i none }
-{
-    FROM_124[i]
-}
-
-fn from_128(i: usize) -> Row
-    requires { i < 4 }
-    ensures { result ≡ get_or (part shared 2) i none }
-{
-    FROM_128[i]
-}
-
-fn from_12c(i: usize) -> Row
-    requires { i < 4 }
-    ensures { result ≡ get_or (part shared 3) i none }
-{
-    FROM_12C[i]
-}
-
-fn from_130(i: usize) -> Row
-    requires { i < 4 }
-    ensures { result ≡ get_or (part shared 4) i none }
-{
-    FROM_130[i]
-}
-
-fn from_134(i: usize) -> Row
-    requires { i < 4 }
-    ensures { result ≡ get_or (part shared 5) i none }
-{
-    FROM_134[i]
-}
-
-fn from_138(i: usize) -> Row
-    requires { i < 4 }
-    ensures { result ≡ get_or (part shared 6) i none }
-{
-    FROM_138[i]
-}
-
-fn from_13c(i: usize) -> Row
-    requires { i < 4 }
-    ensures { result ≡ get_or (part shared 7) i none }
-{
-    FROM_13C[i]
-}
-
-fn from_140(i: usize) -> Row
-    requires { i < 4 }
-    ensures { result ≡ get_or (part shared 8) i none }
-{
-    FROM_140[i]
-}
-
-fn from_144(i: usize) -> Row
-    requires { i < 4 }
-    ensures { result ≡ get_or (part shared 9) i none }
-{
-    FROM_144[i]
-}
-
-fn from_148(i: usize) -> Row
-    requires { i < 4 }
-    ensures { result ≡ get_or (part shared 10) i none }
-{
-    FROM_148[i]
-}
-
-fn from_14c(i: usize) -> Row
-    requires { i < 4 }
-    ensures { result ≡ get_or (part shared 11) i none }
-{
-    FROM_14C[i]
-}
-
-fn from_150(i: usize) -> Row
-    requires { i < 4 }
-    ensures { result ≡ get_or (part shared 12) i none }
-{
-    FROM_150[i]
-}
-
-fn from_154(i: usize) -> Row
-    requires { i < 4 }
-    ensures { result ≡ get_or (part shared 13) i none }
-{
-    FROM_154[i]
-}
-
-fn from_158(i: usize) -> Row
-    requires { i < 4 }
-    ensures { result ≡ get_or (part shared 14) i none }
-{
-    FROM_158[i]
-}
-
-fn from_15d(i: usize) -> Row
-    requires { i < 4 }
-    ensures { result ≡ get_or (part shared 15) i none }
-{
-    FROM_15D[i]
-}
-
-fn from_162(i: usize) -> Row
-    requires { i < 4 }
-    ensures { result ≡ get_or (part shared 16) i none }
-{
-    FROM_162[i]
-}
-
-fn from_167(i: usize) -> Row
-    requires { i < 4 }
-    ensures { result ≡ get_or (part shared 17) i none }
-{
-    FROM_167[i]
-}
-
-fn from_16b(i: usize) -> Row
-    requires { i < 4 }
-    ensures { result ≡ get_or (part shared 18) i none }
-{
-    FROM_16B[i]
-}
-
-fn from_16f(i: usize) -> Row
-    requires { i < 4 }
-    ensures { result ≡ get_or (part shared 19) i none }
-{
-    FROM_16F[i]
-}
-
-fn from_173(i: usize) -> Row
-    requires { i < 4 }
-    ensures { result ≡ get_or (part shared 20) i none }
-{
-    FROM_173[i]
-}
-
-fn from_178(i: usize) -> Row
-    requires { i < 4 }
-    ensures { result ≡ get_or (part shared 21) i none }
-{
-    FROM_178[i]
-}
-
-fn from_17c(i: usize) -> Row
-    requires { i < 4 }
-    ensures { result ≡ get_or (part shared 22) i none }
-{
-    FROM_17C[i]
-}
-
-fn from_180(i: usize) -> Row
-    requires { i < 4 }
-    ensures { result ≡ get_or (part shared 23) i none }
-{
-    FROM_180[i]
-}
-
-fn from_184(i: usize) -> Row
-    requires { i < 4 }
-    ensures { result ≡ get_or (part shared 24) i none }
-{
-    FROM_184[i]
-}
-
-fn from_188(i: usize) -> Row
-    requires { i < 4 }
-    ensures { result ≡ get_or (part shared 25) i none }
-{
-    FROM_188[i]
-}
-
-fn from_18c(i: usize) -> Row
-    requires { i < 4 }
-    ensures { result ≡ get_or (part shared 26) i none }
-{
-    FROM_18C[i]
-}
-
-fn from_190(i: usize) -> Row
-    requires { i < 4 }
-    ensures { result ≡ get_or (part shared 27) i none }
-{
-    FROM_190[i]
-}
-
-fn crate_0(i: usize) -> Row
-    requires { i < 4 }
-    ensures { result ≡ get_or (part (own Revision.Crate) 0) i none }
-{
-    CRATE_0[i]
-}
-
-fn crate_1(i: usize) -> Row
-    requires { i < 4 }
-    ensures { result ≡ get_or (part (own Revision.Crate) 1) i none }
-{
-    CRATE_1[i]
-}
-
-fn crate_2(i: usize) -> Row
-    requires { i < 4 }
-    ensures { result ≡ get_or (part (own Revision.Crate) 2) i none }
-{
-    CRATE_2[i]
-}
-
-fn crate_3(i: usize) -> Row
-    requires { i < 2 }
-    ensures { result ≡ get_or (part (own Revision.Crate) 3) i none }
-{
-    CRATE_3[i]
-}
-
-fn lib159_0(i: usize) -> Row
-    requires { i < 4 }
-    ensures { result ≡ get_or (part (own Revision.Lib159) 0) i none }
-{
-    LIB159_0[i]
-}
-
-fn lib159_1(i: usize) -> Row
-    requires { i < 2 }
-    ensures { result ≡ get_or (part (own Revision.Lib159) 1) i none }
-{
-    LIB159_1[i]
-}
-
-fn lib138_0(i: usize) -> Row
-    requires { i < 1 }
-    ensures { result ≡ get_or (part (own Revision.Lib138) 0) i none }
-{
-    LIB138_0[i]
-}
-
-// The row at a place of the first four that a table has to itself, and of the next four.
-fn own_0(revision: Revision, i: usize) -> Row
-    requires { i < length (part (own revision) 0) }
-    ensures { result ≡ get_or (part (own revision) 0) i none }
+// What a table has behind the shared rows.
+fn behind_shared(revision: Revision) -> &'static [Row]
+    ensures { result.now ≡ own revision }
 {
     match revision {
-        Revision::Crate => crate_0(i),
-        Revision::Lib138 => lib138_0(i),
-        Revision::Lib159 => lib159_0(i),
-    }
-}
-
-fn own_1(revision: Revision, i: usize) -> Row
-    requires { i < length (part (own revision) 1) }
-    ensures { result ≡ get_or (part (own revision) 1) i none }
-{
-    match revision {
-        Revision::Crate => crate_1(i),
-        Revision::Lib138 => crate_1(i),
-        Revision::Lib159 => lib159_1(i),
+        Revision::Crate => &CRATE,
+        Revision::Lib138 => &LIB138,
+        Revision::Lib159 => &LIB159,
     }
 }
 
 // The row at a place of a whole table.
+#[tactic(auto, using(crate::proofs::Table::places))]
 pub(crate) fn row_at(revision: Revision, place: usize) -> Row
     requires { place < length (table_of revision) }
     ensures { result ≡ get_or (table_of revision) place none }
 {
-    match place / 4 {
-        0 => from_11f(place % 4),
-        1 => from_124(place % 4),
-        2 => from_128(place % 4),
-        3 => from_12c(place % 4),
-        4 => from_130(place % 4),
-        5 => from_134(place % 4),
-        6 => from_138(place % 4),
-        7 => from_13c(place % 4),
-        8 => from_140(place % 4),
-        9 => from_144(place % 4),
-        10 => from_148(place % 4),
-        11 => from_14c(place % 4),
-        12 => from_150(place % 4),
-        13 => from_154(place % 4),
-        14 => from_158(place % 4),
-        15 => from_15d(place % 4),
-        16 => from_162(place % 4),
-        17 => from_167(place % 4),
-        18 => from_16b(place % 4),
-        19 => from_16f(place % 4),
-        20 => from_173(place % 4),
-        21 => from_178(place % 4),
-        22 => from_17c(place % 4),
-        23 => from_180(place % 4),
-        24 => from_184(place % 4),
-        25 => from_188(place % 4),
-        26 => from_18c(place % 4),
-        27 => from_190(place % 4),
-        28 => own_0(revision, place % 4),
-        29 => own_1(revision, place % 4),
-        30 => crate_2(place % 4),
-        _ => crate_3(place % 4),
+    if place < SHARED.len() {
+        return SHARED[place];
     }
+    behind_shared(revision)[place - SHARED.len()]
 }

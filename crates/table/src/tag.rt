@@ -5,19 +5,17 @@ ghost use Rattle.table.specs.Tags.{tags};
 
 use base::code::TpmSt;
 
-// A bit for each tag from 0x8000 on.
-const FROM_8000: u64 = 0x0000_003e_17f0_0007;
-
 // Whether TpmSt has a tag.
+#[tactic(auto, unfolding(crate::specs::Tags::tags))]
 pub fn tag_known(st: TpmSt) -> bool
     ensures { result ≡ is_in st.0 tags }
 {
-    let tag = st.0;
-    if tag < 0x8000 {
-        return tag == 0xc4;
-    }
-    if 0x8040 <= tag {
-        return false;
-    }
-    (FROM_8000 >> (tag - 0x8000)) % 2 == 1
+    matches!(
+        st.0,
+        0xc4 // RSP_COMMAND
+            | 0x8000..=0x8002 // NULL, NO_SESSIONS, SESSIONS
+            | 0x8014..=0x801a // ATTEST_NV to ATTEST_CREATION
+            | 0x801c // ATTEST_NV_DIGEST
+            | 0x8021..=0x8025 // CREATION, VERIFIED, AUTH_SECRET, HASHCHECK, AUTH_SIGNED
+    )
 }

@@ -13,8 +13,8 @@ use seplogic.Ra.Ura.{Ura}
 use lib.Dec.{eqb, leb}
 use lib.ListN.{length}
 use lib.Seq.{take_all}
-use base.Logic.{SProp, snd∗, via}
-use contract.Monad.{Fun}
+use base.Logic.{SProp, ent, sep, snd∗, via}
+use contract.Monad.{Fun, fact}
 use denote.Ref.{Bor, as_bor}
 use types.Logic.{Logic, sem}
 use prog.Memory.{Memory}
@@ -139,6 +139,10 @@ module _ (book : Rulebook) where
 
 -- ---- what is promised to whoever makes a view
 
+-- what follows from the fact behind the tie of a part that can be written to
+from_behind : {M : Type 1} (𝓤 : Ura M) (tie : SProp 𝓤) (p : Type 0) {φ : Type 0} → (p → φ) → ent 𝓤 (sep 𝓤 tie (fact 𝓤 p)) (fact 𝓤 φ)
+from_behind 𝓤 tie p says = via 𝓤 (fact 𝓤 p) (snd∗ 𝓤 tie (fact 𝓤 p)) (from_one 𝓤 p says)
+
 -- a view of s made by the rules k, by a read: what it holds is r, where it stands, and the rules j, which are k; so where s passes by k, what it holds passes
 -- by the rules that its methods judge by
 abbrev pub Viewed : {A : Type 0} → (Rulebook → List ℕ → Said A) → Rules → Bor (List ℕ) → Bor (List ℕ) → Rules → Type 0
@@ -163,8 +167,7 @@ module _ {M : Type 1} {𝓤 : Ura M} (𝓛 : Logic 𝓤) (mem : Memory → SProp
 
   pub command_cast_mut : PromisedBy 𝓤 command-mut.ended (command-mut.clauses 𝓛 mem run) (λ κs a r later. Viewed cast_command a.0 (as_bor a.1.0) (as_bor r.frame) r.rules)
   command_cast_mut κs a g r v =
-      via 𝓤 _ (snd∗ 𝓤 (sem 𝓛 (LendsPart (whole a.1.0.now (cast_command (book_of a.0) a.1.0.now)) a.1.0 r.frame)) _)
-      (from_one 𝓤 _ (λ is. viewed cast_command a.0 (as_bor a.1.0) (as_bor r.frame) r.rules is.0 is.1))
+      from_behind 𝓤 (sem 𝓛 (LendsPart (whole a.1.0.now (cast_command (book_of a.0) a.1.0.now)) a.1.0 r.frame)) _ (λ is. viewed cast_command a.0 (as_bor a.1.0) (as_bor r.frame) r.rules is.0 is.1)
 
   pub response_cast : PromisedBy 𝓤 response.ended (response.clauses 𝓛 mem run)
       (λ κs a r later. Viewed cast_response a.0 a.1.1.0 r.frame r.rules × (r.cc ≡ a.1.0))
@@ -173,8 +176,7 @@ module _ {M : Type 1} {𝓤 : Ura M} (𝓛 : Logic 𝓤) (mem : Memory → SProp
   -- it holds no rules: its one method asks for none
   pub response_cast_mut : PromisedBy 𝓤 response-mut.ended (response-mut.clauses 𝓛 mem run) (λ κs a r later. Stands (cast_response (book_of a.0) a.1.0.now) (as_bor a.1.0) (as_bor r.frame))
   response_cast_mut κs a g r v =
-      via 𝓤 _ (snd∗ 𝓤 (sem 𝓛 (LendsPart (whole a.1.0.now (cast_response (book_of a.0) a.1.0.now)) a.1.0 r.frame)) _)
-      (from_one 𝓤 _ (λ is. holds (cast_response (book_of a.0) a.1.0.now) (as_bor a.1.0) (as_bor r.frame) is))
+      from_behind 𝓤 (sem 𝓛 (LendsPart (whole a.1.0.now (cast_response (book_of a.0) a.1.0.now)) a.1.0 r.frame)) _ (λ is. holds (cast_response (book_of a.0) a.1.0.now) (as_bor a.1.0) (as_bor r.frame) is)
 
 -- ---- which parts a view gives back: r is the part of what is held where `parts`, by the rules held, has that area of it
 
@@ -203,12 +205,12 @@ module _ {M : Type 1} {𝓤 : Ura M} (𝓛 : Logic 𝓤) (mem : Memory → SProp
 
   pub command_handles_mut : PromisedBy 𝓤 handles-mut.ended (handles-mut.clauses 𝓛 mem run) (λ κs a r later. Shows (λ c. c.handles) a.0.rules (as_bor a.0.frame) (as_bor r))
   command_handles_mut κs a g r v =
-      via 𝓤 _ (snd∗ 𝓤 (sem 𝓛 (LendsPart (handles_range (book_of a.0.rules) a.0.frame.now) a.0.frame r)) _) (from_one 𝓤 _ (λ is. shows_handles a.0.rules (as_bor a.0.frame) (as_bor r) is))
+      from_behind 𝓤 (sem 𝓛 (LendsPart (handles_range (book_of a.0.rules) a.0.frame.now) a.0.frame r)) _ (λ is. shows_handles a.0.rules (as_bor a.0.frame) (as_bor r) is)
 
   pub command_auth_area_mut : PromisedBy 𝓤 auth-area-mut.ended (auth-area-mut.clauses 𝓛 mem run) (λ κs a r later. Shows (λ c. c.auth) a.0.rules (as_bor a.0.frame) (as_bor r))
   command_auth_area_mut κs a g r v =
-      via 𝓤 _ (snd∗ 𝓤 (sem 𝓛 (LendsPart (auth_range (book_of a.0.rules) a.0.frame.now) a.0.frame r)) _) (from_one 𝓤 _ (λ is. shows_auth a.0.rules (as_bor a.0.frame) (as_bor r) is))
+      from_behind 𝓤 (sem 𝓛 (LendsPart (auth_range (book_of a.0.rules) a.0.frame.now) a.0.frame r)) _ (λ is. shows_auth a.0.rules (as_bor a.0.frame) (as_bor r) is)
 
   pub command_parameters_mut : PromisedBy 𝓤 parameters-mut.ended (parameters-mut.clauses 𝓛 mem run) (λ κs a r later. Shows (λ c. c.parameters) a.0.rules (as_bor a.0.frame) (as_bor r))
   command_parameters_mut κs a g r v =
-      via 𝓤 _ (snd∗ 𝓤 (sem 𝓛 (LendsPart (parameters_range (book_of a.0.rules) a.0.frame.now) a.0.frame r)) _) (from_one 𝓤 _ (λ is. shows_parameters a.0.rules (as_bor a.0.frame) (as_bor r) is))
+      from_behind 𝓤 (sem 𝓛 (LendsPart (parameters_range (book_of a.0.rules) a.0.frame.now) a.0.frame r)) _ (λ is. shows_parameters a.0.rules (as_bor a.0.frame) (as_bor r) is)

@@ -1,7 +1,7 @@
 // A command that passes `cast`, held as its lent bytes; a view of bytes that do not pass holds an empty part of them.
 ghost use Rattle.std.specs.Prelude.{◌≡◌, eqb, length};
 ghost use Rattle.std.specs.Borrow.{sem};
-ghost use Rattle.base.specs.Answer.{said_command_code, said_number32, said_outcome, said_tag};
+ghost use Rattle.base.specs.Answer.{said, said_command_code, said_tag};
 ghost use Rattle.base.specs.Parts.{IsPart, IsPartMut, LendsPart};
 ghost use Rattle.base.specs.Said.{done};
 ghost use Rattle.frame.specs.Answer.{whole};
@@ -9,7 +9,8 @@ ghost use Rattle.frame.specs.Command.{auth_range, cast_command, handles_range, p
 ghost use Rattle.frame.specs.Header.{read_cc, read_size, read_tag};
 ghost use Rattle.frame.specs.Rules.{book_of};
 
-use base::answer::{CommandCode, Number32, Outcome, Tag};
+use base::code::{TpmCc, TpmSt};
+use base::error::TpmError;
 use frame::rules::Rules;
 
 #[derive(Clone, Copy)]
@@ -28,19 +29,19 @@ impl<'a> TpmCommand<'a> {
         }
     }
 
-    pub fn tag(self) -> Tag
+    pub fn tag(self) -> Result<TpmSt, TpmError>
         ensures { said_tag result ≡ read_tag self.entry.frame.now }
     {
         frame::header::tag(self.frame)
     }
 
-    pub fn size(self) -> Number32
-        ensures { said_number32 result ≡ read_size self.entry.frame.now }
+    pub fn size(self) -> Result<u32, TpmError>
+        ensures { said result ≡ read_size self.entry.frame.now }
     {
         frame::header::size(self.frame)
     }
 
-    pub fn cc(self) -> CommandCode
+    pub fn cc(self) -> Result<TpmCc, TpmError>
         ensures { said_command_code result ≡ read_cc (book_of self.entry.rules) self.entry.frame.now }
     {
         frame::command::cc(self.rules, self.frame)
@@ -76,8 +77,8 @@ impl<'a> TpmCommand<'a> {
         frame::command::parameters(self.rules, self.frame)
     }
 
-    pub fn validate(self) -> Outcome
-        ensures { said_outcome result ≡ done (read_command (book_of self.entry.rules) self.entry.frame.now) }
+    pub fn validate(self) -> Result<(), TpmError>
+        ensures { said result ≡ done (read_command (book_of self.entry.rules) self.entry.frame.now) }
     {
         frame::command::validate(self.rules, self.frame)
     }

@@ -2,7 +2,7 @@
 // part of them.
 ghost use Rattle.std.specs.Prelude.{◌≡◌, eqb, length};
 ghost use Rattle.std.specs.Borrow.{sem};
-ghost use Rattle.base.specs.Answer.{said_number32, said_outcome, said_response_code, said_tag};
+ghost use Rattle.base.specs.Answer.{said, said_response_code, said_tag};
 ghost use Rattle.base.specs.Parts.{IsPart, IsPartMut, LendsPart};
 ghost use Rattle.base.specs.Said.{done};
 ghost use Rattle.frame.specs.Answer.{whole};
@@ -10,8 +10,8 @@ ghost use Rattle.frame.specs.Header.{read_rc, read_size, read_tag};
 ghost use Rattle.frame.specs.Response.{body_range, cast_response, read_response};
 ghost use Rattle.frame.specs.Rules.{book_of};
 
-use base::answer::{Number32, Outcome, ResponseCode, Tag};
-use base::code::TpmCc;
+use base::code::{TpmCc, TpmRc, TpmSt};
+use base::error::TpmError;
 use frame::rules::Rules;
 
 #[derive(Clone, Copy)]
@@ -32,19 +32,19 @@ impl<'a> TpmResponse<'a> {
         }
     }
 
-    pub fn tag(self) -> Tag
+    pub fn tag(self) -> Result<TpmSt, TpmError>
         ensures { said_tag result ≡ read_tag self.entry.frame.now }
     {
         frame::header::tag(self.frame)
     }
 
-    pub fn size(self) -> Number32
-        ensures { said_number32 result ≡ read_size self.entry.frame.now }
+    pub fn size(self) -> Result<u32, TpmError>
+        ensures { said result ≡ read_size self.entry.frame.now }
     {
         frame::header::size(self.frame)
     }
 
-    pub fn rc(self) -> ResponseCode
+    pub fn rc(self) -> Result<TpmRc, TpmError>
         ensures { said_response_code result ≡ read_rc (book_of self.entry.rules) self.entry.frame.now }
     {
         frame::response::rc(self.rules, self.frame)
@@ -68,8 +68,8 @@ impl<'a> TpmResponse<'a> {
         frame::response::body(self.frame)
     }
 
-    pub fn validate(self) -> Outcome
-        ensures { said_outcome result ≡ done (read_response (book_of self.entry.rules) self.entry.cc.0 self.entry.frame.now) }
+    pub fn validate(self) -> Result<(), TpmError>
+        ensures { said result ≡ done (read_response (book_of self.entry.rules) self.entry.cc.0 self.entry.frame.now) }
     {
         frame::response::validate(self.rules, self.cc, self.frame)
     }

@@ -1,9 +1,8 @@
 -- `keeper::answer::answer` meets its contract: the refusal of the command, of the response, an error that moves nothing, or what `settle` did.
 -- Assumes nothing.
-use mathlib.Core.Path.{◌≡◌}
+use mathlib.Core.Path.{◌≡◌, ◌∙◌}
 use lib.ListN.{length}
-use Rattle.base.proofs.Answers.{learnt}
-use Rattle.frame.specs.Answer.{said_command_sessions, said_response_sessions}
+use Rattle.base.proofs.Answers.{passed_on}
 use Rattle.frame.specs.Parts.{entries_of}
 use Rattle.keeper.specs.Keeper.{settling}
 use Rattle.keeper.specs.State.{held, settled_in, answered_in}
@@ -14,53 +13,48 @@ use Rattle.keeper.proofs.answer.answer.Goals as goal
 pub settle-requires : goal.settle-requires
 settle-requires c =
     let a = c.args in
-    let first = learnt said_command_sessions c.in-Is.is c.sessions.ensures in
-    let second = learnt said_response_sessions c.in-Is-sessions.is c.sessions-in-Is.ensures in (
+    let first = c.in_ok-asked.ensures in
+    let second = c.in_ok-told.ensures in (
       search rules,
       command_few a.revision a.command.now a.response.now first,
       response_few a.revision a.command.now a.response.now first second,
       response_kept a.revision a.command.now a.response.now first second,
     )
 
-pub returns-in-Refused : goal.returns-in-Refused
+pub returns-in_err-asked : goal.returns-in_err-asked
 unfolding answered_in
-returns-in-Refused c =
+returns-in_err-asked c =
     let a = c.args in
     let s = a.keeper.now in
-    let read = command_refused a.revision a.command.now a.response.now (learnt said_command_sessions c.in-Refused.is c.sessions.ensures) (held s) in
+    let read = command_refused a.revision a.command.now a.response.now c.in_err-asked.ensures (held s) in
     let each = answers_none a.revision a.command.now a.response.now s read in
-    record { answer = each.0; sessions = each.1.0; bytes = each.1.1 }
+    record { answer = passed_on _ _ _ c.from_residual.ensures.1 ∙ each.0; sessions = each.1.0; bytes = each.1.1 }
 
-pub returns-in-Refused-sessions : goal.returns-in-Refused-sessions
+pub returns-in_err-told : goal.returns-in_err-told
 unfolding answered_in
-returns-in-Refused-sessions c =
+returns-in_err-told c =
     let a = c.args in
     let s = a.keeper.now in
-    let first = learnt said_command_sessions c.in-Is.is c.sessions.ensures in
-    let read = response_refused a.revision a.command.now a.response.now first (learnt said_response_sessions c.in-Refused-sessions.is c.sessions-in-Is.ensures) (held s) in
+    let read = response_refused a.revision a.command.now a.response.now c.in_ok-asked.ensures c.in_err-told.ensures (held s) in
     let each = answers_none a.revision a.command.now a.response.now s read in
-    record { answer = each.0; sessions = each.1.0; bytes = each.1.1 }
+    record { answer = passed_on _ _ _ c.from_residual-in_err-told.ensures.1 ∙ each.0; sessions = each.1.0; bytes = each.1.1 }
 
-pub returns-then-rc-eq0 : goal.returns-then-rc-eq0
+pub returns-then-told-eq0 : goal.returns-then-told-eq0
 unfolding answered_in settled_in
-returns-then-rc-eq0 c =
+returns-then-told-eq0 c =
     let a = c.args in
     let s = a.keeper.now in
     let all : length s ≡ 4424 = search rules in
-    let first = learnt said_command_sessions c.in-Is.is c.sessions.ensures in
-    let second = learnt said_response_sessions c.in-Is-sessions.is c.sessions-in-Is.ensures in
     let each = answers_as a.revision a.command.now a.response.now s all
-    (settling a.response.now (entries_of c.in-Is.named) (entries_of c.in-Is-sessions.given) (held s))
-    (answered_success a.revision a.command.now a.response.now first second c.if-rc-eq0.true (held s))
+    (settling a.response.now (entries_of c.in_ok-asked.asked.entries) (entries_of c.in_ok-told.told.entries) (held s))
+    (answered_success a.revision a.command.now a.response.now c.in_ok-asked.ensures c.in_ok-told.ensures c.if-told-eq0.true (held s))
     c.settle.ensures.answer c.settle.ensures.later in
     record { answer = each.0; sessions = each.1.0; bytes = each.1.1 }
 
-pub returns-else-rc-eq0 : goal.returns-else-rc-eq0
+pub returns-else-told-eq0 : goal.returns-else-told-eq0
 unfolding answered_in
-returns-else-rc-eq0 c =
+returns-else-told-eq0 c =
     let a = c.args in
     let s = a.keeper.now in
-    let first = learnt said_command_sessions c.in-Is.is c.sessions.ensures in
-    let second = learnt said_response_sessions c.in-Is-sessions.is c.sessions-in-Is.ensures in
-    let each = answers_idle a.revision a.command.now a.response.now s (answered_error a.revision a.command.now a.response.now first second c.if-rc-eq0.false (held s)) in
+    let each = answers_idle a.revision a.command.now a.response.now s (answered_error a.revision a.command.now a.response.now c.in_ok-asked.ensures c.in_ok-told.ensures c.if-told-eq0.false (held s)) in
     record { answer = each.0; sessions = each.1.0; bytes = each.1.1 }

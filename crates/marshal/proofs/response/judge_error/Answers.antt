@@ -1,10 +1,10 @@
 -- `marshal::response::judge_error` meets its contract: each return is the case of the definition to which its tests lead.
 -- Assumes nothing.
 use mathlib.Core.Path.{sym, ◌∙◌, ap}
-use Rattle.base.specs.Said.{refuses, given}
-use Rattle.base.proofs.Answers.{learnt}
+use Rattle.base.specs.Said.{given}
 use Rattle.base.proofs.Checks.{passes}
-use Rattle.rc.specs.Code.{read_code, said_code}
+use Rattle.rc.specs.Code.{read_code}
+use Rattle.marshal.proofs.Judgements.{told}
 use Rattle.marshal.proofs.Writers.{error_fits, error_sessions}
 use Rattle.marshal.proofs.response.judge_error.Goals as goal
 
@@ -12,10 +12,10 @@ pub returns-then-count-eq0 : goal.returns-then-count-eq0
 returns-then-count-eq0 c =
     let a = c.args in
     c.fits.ensures ∙ error_fits a.rc.0 a.count a.room c.if-count-eq0.true
-    ∙ passes (given (read_code a.rc.0)) _ _ (ap given (sym (learnt said_code c.in-Code.is c.read.ensures)))
+    ∙ passes (given (read_code a.rc.0)) _ _ (ap given (sym c.in-Ok.ensures))
 
-pub returns-else-count-eq0 : goal.returns-else-count-eq0
-returns-else-count-eq0 c =
+pub returns : goal.returns
+returns c =
     let a = c.args in
-    c.common-in-Code.ensures ∙ ap refuses c.refused-in-Code.ensures ∙ error_sessions a.rc.0 a.count a.room c.if-count-eq0.false
-    ∙ passes (given (read_code a.rc.0)) _ _ (ap given (sym (learnt said_code c.in-Code.is c.read.ensures)))
+    told c.into-2.ensures c.refused-2.ensures ∙ error_sessions a.rc.0 a.count a.room c.if-count-eq0.false
+    ∙ passes (given (read_code a.rc.0)) _ _ (ap given (sym c.in-Ok.ensures))

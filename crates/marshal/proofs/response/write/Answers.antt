@@ -4,8 +4,6 @@ use mathlib.Core.List.{List}
 use mathlib.Core.Path.{sym, ◌∙◌, ap}
 use Prim.Native.Nat.{ℕ}
 use lib.ListN.{length}
-use Rattle.base.specs.Answer.{said_total}
-use Rattle.base.proofs.Answers.{learnt}
 use Rattle.frame.proofs.Divisions.{longest_below}
 use Rattle.marshal.specs.Handed.{handed}
 use Rattle.base.specs.Field.{laid}
@@ -18,26 +16,26 @@ pub lay_success-requires : goal.lay_success-requires
 lay_success-requires c =
     let a = c.args in
     let h = handed a.handles.now a.sessions a.lent.now a.parameters.now in
-    (success_ready (book_for a.rules) (asked a.rules) a.cc.0 a.rc.0 h (length a.room.now) (longest_below (reading_of a.rules.mode)) c.if-rc-eq0.true (learnt said_total c.in-Is.is c.judge_response-judged.ensures)).0
+    (success_ready (book_for a.rules) (asked a.rules) a.cc.0 a.rc.0 h (length a.room.now) (longest_below (reading_of a.rules.mode)) c.if-rc-eq0.true c.in_ok-total.ensures).0
 
 pub returns-then-rc-eq0-clause-bytes : goal.returns-then-rc-eq0-clause-bytes
 returns-then-rc-eq0-clause-bytes c =
     let a = c.args in
     let h = handed a.handles.now a.sessions a.lent.now a.parameters.now in
-    let said = learnt said_total c.in-Is.is c.judge_response-judged.ensures in
+    let said = c.in_ok-total.ensures in
     room_written a.room.now (success_ready (book_for a.rules) (asked a.rules) a.cc.0 a.rc.0 h (length a.room.now) (longest_below (reading_of a.rules.mode)) c.if-rc-eq0.true said).1 c.lay_success.ensures
 
 pub put_header-requires : goal.put_header-requires
 put_header-requires c =
     let a = c.args in
     let h = handed a.handles.now a.sessions a.lent.now a.parameters.now in
-    (error_ready (book_for a.rules) (asked a.rules) a.cc.0 a.rc.0 h (length a.room.now) c.if-rc-eq0.false (learnt said_total c.in-Is.is c.judge_response-judged.ensures)).0
+    (error_ready (book_for a.rules) (asked a.rules) a.cc.0 a.rc.0 h (length a.room.now) c.if-rc-eq0.false c.in_ok-total.ensures).0
 
-pub returns-clause-bytes : goal.returns-clause-bytes
-returns-clause-bytes c =
+pub returns-else-rc-eq0-clause-bytes : goal.returns-else-rc-eq0-clause-bytes
+returns-else-rc-eq0-clause-bytes c =
     let a = c.args in
     let h = handed a.handles.now a.sessions a.lent.now a.parameters.now in
-    let said = learnt said_total c.in-Is.is c.judge_response-judged.ensures in
+    let said = c.in_ok-total.ensures in
     let put =
     c.put_header.ensures.later_is
     ∙ ap (λ (tag : ℕ). laid 0 (header_of tag 10 a.rc.0) a.room.now) c.error_tag.ensures

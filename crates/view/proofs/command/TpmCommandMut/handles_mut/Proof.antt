@@ -1,12 +1,7 @@
 -- `view::command::TpmCommandMut::handles_mut` meets its contract: the struct is given up for the part that `frame::command::handles_mut` hands out (GivingBy.antt).
 -- Assumes nothing.
-use Prim.Native.Nat.{ℕ}
-use mathlib.Core.List.{List}
-use Rattle.base.specs.Answer.{Part}
-use Rattle.base.specs.Said.{Said}
 use Rattle.frame.specs.Command.{handles_range}
 use Rattle.frame.specs.Rules.{book_of}
-use Rattle.frame.specs.declared.rules.Rules.{Rules}
 use Rattle.frame.proofs.command.handles_mut.Symbol.{name as #callee}
 use Rattle.frame.proofs.command.handles_mut.Met as callee
 use Rattle.view.proofs.HoldersMut.{command}
@@ -15,11 +10,7 @@ use Rattle.view.specs.contracts.command.TpmCommandMut.handles_mut.Key.{name as #
 use Rattle.view.proofs.command.TpmCommandMut.handles_mut.Statement.{statement}
 use Rattle.view.proofs.command.TpmCommandMut.handles_mut.Code as code
 
--- the range, of the rules and all the bytes
-abbrev range : Rules → List ℕ → Said Part
-range rules s = handles_range (book_of rules) s
-
 pub handles_mut_spec : {M : Type 1} → statement M
 handles_mut_spec 𝓤 𝓛 𝓜 𝓡 wired =
-    gives_up_by command #callee range 𝓛 𝓜 𝓡 #this (code.unfolded 𝓤 𝓛.H 𝓜 𝓡 wired)
+    gives_up_by command #callee (λ rules. handles_range (book_of rules)) 𝓛 𝓜 𝓡 #this (code.unfolded 𝓤 𝓛.H 𝓜 𝓡 wired)
     (callee.met 𝓤 𝓛 𝓜 𝓡 (code.calls-frame::command::handles_mut 𝓡.env wired))

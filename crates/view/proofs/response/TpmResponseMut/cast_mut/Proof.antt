@@ -1,13 +1,8 @@
 -- `view::response::TpmResponseMut::cast_mut` meets its contract: the struct is made of the part that `frame::response::cast_mut` hands out (Making.antt).
 -- Assumes nothing.
-use Prim.Native.Nat.{ℕ}
-use mathlib.Core.List.{List}
-use Rattle.base.specs.Answer.{Part}
-use Rattle.base.specs.Said.{Said}
 use Rattle.frame.specs.Answer.{whole}
 use Rattle.frame.specs.Response.{cast_response}
 use Rattle.frame.specs.Rules.{book_of}
-use Rattle.frame.specs.declared.rules.Rules.{Rules}
 use Rattle.frame.proofs.response.cast_mut.Symbol.{name as #callee}
 use Rattle.frame.proofs.response.cast_mut.Met as callee
 use Rattle.view.proofs.HoldersMut.{response}
@@ -16,11 +11,7 @@ use Rattle.view.specs.contracts.response.TpmResponseMut.cast_mut.Key.{name as #t
 use Rattle.view.proofs.response.TpmResponseMut.cast_mut.Statement.{statement}
 use Rattle.view.proofs.response.TpmResponseMut.cast_mut.Code as code
 
--- the range, of the rules and all the bytes
-abbrev range : Rules → List ℕ → Said Part
-range rules s = whole s (cast_response (book_of rules) s)
-
 pub cast_mut_spec : {M : Type 1} → statement M
 cast_mut_spec 𝓤 𝓛 𝓜 𝓡 wired =
-    makes_view response #callee range 𝓛 𝓜 𝓡 #this (code.unfolded 𝓤 𝓛.H 𝓜 𝓡 wired)
+    makes_view response #callee (λ rules s. whole s (cast_response (book_of rules) s)) 𝓛 𝓜 𝓡 #this (code.unfolded 𝓤 𝓛.H 𝓜 𝓡 wired)
     (callee.met 𝓤 𝓛 𝓜 𝓡 (code.calls-frame::response::cast_mut 𝓡.env wired))
