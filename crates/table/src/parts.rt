@@ -1,4 +1,5 @@
-// The rows of the tables, strictly rising by code. The first 112 are those of every table; behind them each table has its own.
+// The rows of the tables, strictly rising by code, in two parts: the first 112 are those of every table, and behind them each table has
+// its own.
 ghost use Rattle.std.specs.Prelude.{◌≡◌, ◌<◌, get_or, length};
 ghost use Rattle.table.specs.Dispatch.{own, table_of};
 ghost use Rattle.table.specs.Table.{none};
