@@ -1,8 +1,7 @@
 -- The cases of the view's reads, each from the tests that lead to it, over any capacity.
 -- Assumes nothing.
 use mathlib.Core.Path.{◌≡◌, refl, sym, ◌∙◌, ap}
-use mathlib.Core.Bool.{Bool, true, false}
-use mathlib.Core.List.{List, [], ◌∷◌}
+use mathlib.Core.List.{List}
 use Prim.Native.Nat.{ℕ, ◌+◌, ◌-◌, ◌≤◌, ◌<◌}
 use native.Mathlib.Nat.{sub-zero}
 use native.Mathlib.Omega.{arith}
@@ -14,8 +13,9 @@ use Rattle.base.specs.Bytes.{AreBytes}
 use Rattle.base.specs.declared.error.Area.TheVariants.{None}
 use Rattle.base.specs.Field.{read_field}
 use Rattle.base.specs.Parts.{up_to}
-use Rattle.base.specs.Said.{no_area, Said, gives, refuses, done, needs, within}
+use Rattle.base.specs.Said.{Said, gives, refuses, done, within}
 use Rattle.base.proofs.Bytes.{number_lt, are_bytes_take}
+use Rattle.base.proofs.Frameless.{read_nowhere}
 use Rattle.base.proofs.Checks.{needs_gives, then_gives, gives_injective, gives≢refuses}
 use Rattle.buffer.specs.View.{size_of, read_size, prefix, whole}
 
@@ -23,11 +23,7 @@ module _ (s : List ℕ) where
   -- the size field is the field of two bytes at the start
   pub size_field : within None (read_field 2 0 s) ≡ read_size s
   unfolding read_size
-  size_field = rw (sub-zero (length s)) (by (leb 2 (length s)))
-    where
-      by : (b : Bool) → within None (needs b (no_area (1 ∷ 0 ∷ 2 ∷ length s ∷ [])) (gives (size_of s))) ≡ needs b (no_area (1 ∷ 0 ∷ 2 ∷ length s ∷ [])) (gives (size_of s))
-      by true = refl
-      by false = refl
+  size_field = read_nowhere 0 s 2 ∙ rw (sub-zero (length s)) refl
 
   pub size_is : 2 ≤ length s → gives (size_of s) ≡ read_size s
   unfolding read_size

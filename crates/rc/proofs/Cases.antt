@@ -1,41 +1,19 @@
 -- The cases of the reading of a code, each from the tests that lead to it.
 -- Assumes nothing.
 use mathlib.Core.Path.{◌≡◌}
-use mathlib.Core.Bool.{Bool, true, false, ◌&&◌, cond}
-use mathlib.Core.List.{[], ◌∷◌}
+use mathlib.Core.Bool.{true}
 use Prim.Native.Nat.{ℕ, ◌+◌, ◌-◌, ◌/◌, ◌%◌, ◌≤◌, ◌<◌}
 use native.Mathlib.Omega.{arith}
 use borrow.Author.Tests.{lt-ltb, le-ltb, eq-eqb, ne_eqb}
-use Rattle.base.specs.Said.{no_area, gives, refuses}
-use Rattle.rc.specs.declared.code.Code.TheVariants.{Fmt0, Warn, Fmt1, Parameter, Handle, Session}
+use Rattle.base.specs.Said.{gives}
+use Rattle.rc.specs.declared.code.Code.TheVariants.{Fmt1, Parameter, Handle, Session}
 use Rattle.rc.specs.Known.{is_known}
-use Rattle.rc.specs.Code.{bit, base, read_index, read_fmt1, read_fmt0, read_code}
+use Rattle.rc.specs.Code.{bit, base, read_index, read_fmt1, read_code}
 
 module _ (value : ℕ) where
   pub format_one : bit 128 value ≡ true → read_fmt1 value ≡ read_code value
   unfolding read_code
   format_one t = simp t
-
-  pub format_zero : bit 128 value ≡ false → read_fmt0 value ≡ read_code value
-  unfolding read_code
-  format_zero t = simp t
-
-  pub fmt0_unknown : is_known value ≡ false → refuses (no_area (5 ∷ 0 ∷ value ∷ [])) ≡ read_fmt0 value
-  unfolding read_fmt0
-  fmt0_unknown k = simp k
-
-  pub fmt0_known : is_known value ≡ true → (t : Bool) → (bit 256 value && bit 2048 value) ≡ t
-      → gives (cond t (Warn (base value)) (Fmt0 (base value))) ≡ read_fmt0 value
-  unfolding read_fmt0
-  fmt0_known k t e = simp (k, e)
-
-  pub fmt1_high : 4096 ≤ value → refuses (no_area (5 ∷ 0 ∷ value ∷ [])) ≡ read_fmt1 value
-  unfolding read_fmt1
-  fmt1_high h = simp (le-ltb value 4096 h)
-
-  pub fmt1_unknown : value < 4096 → is_known (128 + value % 64) ≡ false → refuses (no_area (5 ∷ 0 ∷ value ∷ [])) ≡ read_fmt1 value
-  unfolding read_fmt1
-  fmt1_unknown h k = simp (lt-ltb value 4096 h, k)
 
   pub fmt1_open : value < 4096 → is_known (128 + value % 64) ≡ true
       → read_fmt1 value ≡ read_index value (128 + value % 64) (bit 64 value) (value / 256 % 16)
@@ -43,10 +21,6 @@ module _ (value : ℕ) where
   fmt1_open h k = simp (lt-ltb value 4096 h, k)
 
   module _ (b n : ℕ) where
-    pub parameter_none : value / 64 % 2 ≡ 1 → n ≡ 0 → refuses (no_area (5 ∷ 0 ∷ value ∷ [])) ≡ read_index value b (bit 64 value) n
-    unfolding read_index
-    parameter_none t z = simp (eq-eqb (value / 64 % 2) 1 t, le-ltb 0 n (omega arith))
-
     pub parameter : value / 64 % 2 ≡ 1 → (n ≡ 0 → ⊥) → gives (Parameter (base b) n) ≡ read_index value b (bit 64 value) n
     unfolding read_index
     parameter t z = simp (eq-eqb (value / 64 % 2) 1 t, lt-ltb 0 n (omega arith))

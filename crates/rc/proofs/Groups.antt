@@ -38,6 +38,10 @@ holes = (refl, refl, refl, refl)
 
 -- ---- what is known
 
+pub success_known : (code : ℕ) → code ≡ 0 → true ≡ is_known code
+unfolding is_known known_codes
+success_known code e = rw e
+
 pub not_known : (code : ℕ) → 0x980 ≤ code → false ≡ is_known code
 unfolding is_known known_codes
 not_known code h = by (is_known code) refl
@@ -92,6 +96,9 @@ warn_decides = on_stretch (λ (c : ℕ). in_some c warn) is_known 0x900 0x980 re
 pub none_between : (code : ℕ) → 0x180 ≤ code → code < 0x900 → false ≡ is_known code
 unfolding is_known known_codes
 none_between = on_stretch (λ (c : ℕ). false) is_known 0x180 0x900 refl
+
+-- what base_known and grouped are proved by
+pub ruleset known_by_group = (success_known, tpm12_decides, fmt1_decides, ver1_decides, warn_decides, none_between, not_known)
 
 -- ---- what the bits of a known code say of its group
 

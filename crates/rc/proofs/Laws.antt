@@ -10,13 +10,17 @@ use borrow.Author.Tests.{eqb-true, eqb-false, leb-true, ltb-true, ltb-false, le-
 use lib.Bits.{bit_or, or_block, or_zero_r, or_shifted_r}
 use lib.Dec.{eqb, leb, ltb}
 use lib.Pow.{shr-shr}
+use Rattle.std.specs.Prelude.{Result, Ok, Err}
 use Rattle.base.specs.Said.{Why, no_area, gives, Only}
 use Rattle.base.proofs.Checks.{needs_gives, cond_gives, gives_injective}
 use Rattle.base.proofs.Only.{by_gives, by_needs, by_cond}
 use Rattle.rc.specs.declared.code.Code.{Code}
 use Rattle.rc.specs.declared.code.Code.TheVariants.{Fmt0, Warn, Fmt1, Parameter, Handle, Session}
+use Rattle.rc.specs.declared.code.Kind.{Kind}
+use Rattle.rc.specs.declared.code.Kind.TheVariants as kind
+use Rattle.rc.specs.declared.code.UnknownKind.{UnknownKind}
 use Rattle.rc.specs.Known.{in_some, tpm12, ver1, fmt1, warn, is_known}
-use Rattle.rc.specs.Code.{bit, base, read_index, read_fmt1, read_fmt0, read_code, value_of, kind_of, base_of, index_of, of_parts}
+use Rattle.rc.specs.Code.{bit, base, read_index, read_fmt1, read_fmt0, read_code, value_of, kind_of, kind_number, IsKindOf, base_of, index_of, of_parts}
 use Rattle.rc.specs.Layout.{OfFmt0, OfFmt1, WellFormed}
 use Rattle.rc.proofs.Cases.{format_one, fmt1_open, parameter, no_index, handle, session}
 use Rattle.rc.proofs.Groups.{fmt0_bits, fmt1_bits, warn_bits}
@@ -218,3 +222,37 @@ told_by_parts (Fmt1 b) = refl
 told_by_parts (Parameter b n) = refl
 told_by_parts (Handle b n) = refl
 told_by_parts (Session b n) = refl
+
+-- the number of a kind names it
+kind_named : ℕ → Kind
+kind_named n =
+    cond (eqb n 1) kind.Warn
+    (cond (eqb n 2) kind.Fmt1
+    (cond (eqb n 3) kind.Parameter
+    (cond (eqb n 4) kind.Handle
+    (cond (eqb n 5) kind.Session
+    kind.Fmt0))))
+
+kind_named_numbered : (k : Kind) → kind_named (kind_number k) ≡ k
+unfolding kind_named
+kind_named_numbered kind.Fmt0 = refl
+kind_named_numbered kind.Warn = refl
+kind_named_numbered kind.Fmt1 = refl
+kind_named_numbered kind.Parameter = refl
+kind_named_numbered kind.Handle = refl
+kind_named_numbered kind.Session = refl
+
+kind_number_low : (k : Kind) → kind_number k ≤ 5
+kind_number_low kind.Fmt0 = omega arith
+kind_number_low kind.Warn = omega arith
+kind_number_low kind.Fmt1 = omega arith
+kind_number_low kind.Parameter = omega arith
+kind_number_low kind.Handle = omega arith
+kind_number_low kind.Session = omega arith
+
+-- a number is that of one kind, or of none
+pub one_kind : (n : ℕ) (a b : Result Kind UnknownKind) → IsKindOf n a → IsKindOf n b → a ≡ b
+one_kind n (Ok k) (Ok l) e f = ap Ok (sym (kind_named_numbered k) ∙ ap kind_named (e ∙ sym f) ∙ kind_named_numbered l)
+one_kind n (Ok k) (Err u) e f = absurd (let low = kind_number_low k in omega arith)
+one_kind n (Err u) (Ok l) e f = absurd (let low = kind_number_low l in omega arith)
+one_kind n (Err u) (Err v) e f = ap Err (λ i. record { 0 = (e.0 ∙ sym f.0) i })

@@ -1,6 +1,6 @@
 -- Each public function of rc leaves a single answer (base, specs/Single.antt).
 -- Assumes nothing.
-use mathlib.Core.Path.{◌≡◌, refl, sym, ◌∙◌, ap}
+use mathlib.Core.Path.{refl, sym, ◌∙◌}
 use Rattle.base.specs.Single.{Single}
 use Rattle.base.proofs.Answers.{said_injective}
 use Rattle.rc.proofs.known.base_known.Kinds as base-known-kinds

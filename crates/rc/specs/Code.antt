@@ -1,6 +1,6 @@
 -- What a response code says (document 01, "Response code"; Part 2, TPM_RC and its format one), and the value of what is said.
 -- Assumes nothing: these are definitions.
-use Rattle.std.specs.Prelude.{ℕ, ◌+◌, ◌-◌, ◌*◌, ◌/◌, ◌%◌, Bool, ◌&&◌, cond, [], ◌∷◌, Option, Some, None, eqb, ltb}
+use Rattle.std.specs.Prelude.{ℕ, ◌+◌, ◌-◌, ◌*◌, ◌/◌, ◌%◌, Bool, ◌&&◌, cond, [], ◌∷◌, Option, Some, None, Result, MatchResult, ◌≡◌, ◌<◌, eqb, ltb}
 use Rattle.std.specs.Int.Bits.{bit_or}
 use Rattle.base.specs.Said.{no_area, Said, gives, refuses, needs}
 use Rattle.rc.specs.declared.code.TpmRcBase.{TpmRcBase}
@@ -8,6 +8,7 @@ use Rattle.rc.specs.declared.code.Code.{Code}
 use Rattle.rc.specs.declared.code.Code.TheVariants.{Fmt0, Warn, Fmt1, Parameter, Handle, Session}
 use Rattle.rc.specs.declared.code.Kind.{Kind}
 use Rattle.rc.specs.declared.code.Kind.TheVariants as k
+use Rattle.rc.specs.declared.code.UnknownKind.{UnknownKind}
 use Rattle.rc.specs.Known.{is_known}
 
 -- bit k of a value, told by 2 ^ k
@@ -73,6 +74,10 @@ kind_number k.Fmt1 = 2
 kind_number k.Parameter = 3
 kind_number k.Handle = 4
 kind_number k.Session = 5
+
+-- the result is the kind of a number, or the number that is no kind's
+abbrev pub IsKindOf : ℕ → Result Kind UnknownKind → Type 0
+IsKindOf n r = MatchResult r (λ kind. kind_number kind ≡ n) (λ e. (e.0 ≡ n) × (5 < n))
 
 -- the number of the part that a code speaks of, 0 for none
 abbrev pub index_of : Code → ℕ

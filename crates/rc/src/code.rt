@@ -1,7 +1,7 @@
 // A response code taken apart, and put together again.
 ghost use Rattle.std.specs.Prelude.{◌≡◌, ◌&&◌, ◌*◌, ◌%◌};
 ghost use Rattle.base.specs.Answer.{said};
-ghost use Rattle.rc.specs.Code.{base_of, bit, found, index_of, kind_number, kind_of, of_parts, read_code, read_fmt1, value_of};
+ghost use Rattle.rc.specs.Code.{IsKindOf, base_of, bit, found, index_of, kind_number, kind_of, of_parts, read_code, read_fmt1, value_of};
 
 use crate::known::base_known;
 use base::code::TpmRc;
@@ -34,7 +34,11 @@ pub enum Kind {
     Session,
 }
 
-// What a response code says.
+// A number that names no kind.
+#[derive(Clone, Copy, Debug, PartialEq, Eq)]
+pub struct UnknownKind(pub u32);
+
+// What a response code says. `read` may not change, and its single answer has a line in proofs/Single.antt, which a method of TryFrom has not.
 pub fn read(rc: TpmRc) -> Result<Code, TpmError>
     ensures { said result ≡ read_code rc.0 }
 {
@@ -142,7 +146,7 @@ impl Code {
         }
     }
 
-    // The value of a code, an index masked to four bits.
+    // The value of a code, an index masked to four bits. A method and no From: a code has three numbers more, and a method's name says which.
     pub fn value(self) -> u32
         ensures { result ≡ value_of self }
     {
@@ -171,6 +175,25 @@ impl Kind {
         ensures { result ≡ kind_number self }
     {
         self as u32
+    }
+}
+
+// The kind of a number, as it comes from C.
+impl TryFrom<u32> for Kind {
+    type Error = UnknownKind;
+
+    ghost try_from_gives = { IsKindOf };
+
+    fn try_from(number: u32) -> Result<Kind, UnknownKind> {
+        match number {
+            0 => Ok(Kind::Fmt0),
+            1 => Ok(Kind::Warn),
+            2 => Ok(Kind::Fmt1),
+            3 => Ok(Kind::Parameter),
+            4 => Ok(Kind::Handle),
+            5 => Ok(Kind::Session),
+            _ => Err(UnknownKind(number)),
+        }
     }
 }
 

@@ -4,6 +4,7 @@ ghost use Rattle.rc.specs.Known.{fmt1, in_some, is_known, tpm12, ver1, warn};
 
 // Whether a code is a known base code. SUCCESS is what most codes are, and most of what is none lies in no group: both are told here. The
 // ranges are asked in two arms for the compiler's sake: it inlines a function with one caller whatever its size, and so it inlines this one alone.
+#[tactic(auto, using(crate::proofs::Groups::known_by_group))]
 pub fn base_known(code: u32) -> bool
     ensures { result ≡ is_known code }
 {
@@ -16,6 +17,7 @@ pub fn base_known(code: u32) -> bool
 }
 
 // The same by the ranges. The bits above the low seven tell the group, and no other one is looked at.
+#[tactic(auto, using(crate::proofs::Groups::known_by_group))]
 fn grouped(code: u32) -> bool
     ensures { result ≡ is_known code }
 {

@@ -4,7 +4,8 @@ ghost use Rattle.frame.specs.Walk.{by_value};
 
 use frame::session::{Entries, Session};
 
-// How many records there are, and the first three; zeros stand for a record that is not there.
+// How many records there are, and the first three; zeros stand for a record that is not there. They are made once and copied whole, as
+// records are: where a slot gets a record or zeros field by field, LLVM copies the record piece by piece, padding and all.
 pub fn first_three(s: &[Session]) -> Entries
     ensures { result ≡ by_value s.now }
 {

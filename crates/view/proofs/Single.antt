@@ -53,10 +53,10 @@ module _ {T : Ended}
     {Same : (κs : Lfts T.signature.lifetimes) → Res T.signature κs → Res T.signature κs → Type 0}
     {Post : (κs : Lfts T.signature.lifetimes) → Args T.signature κs → Res T.signature κs → AtExit T κs → Type 0} where
   one_fact : ((M : Type 1) (𝓤 : Ura M) (𝓛 : Logic 𝓤) (mem : Memory → SProp 𝓤) (run : Routine → Fun 𝓤)
-          (κs : Lfts T.signature.lifetimes) (a : Args T.signature κs) (g : (c M 𝓤 𝓛 mem run κs a).ghost) (r : Res T.signature κs) (s : AtExit T κs)
-          → (c M 𝓤 𝓛 mem run κs a).ensures g r s ≡ fact 𝓤 (Post κs a r s))
+      (κs : Lfts T.signature.lifetimes) (a : Args T.signature κs) (g : (c M 𝓤 𝓛 mem run κs a).ghost) (r : Res T.signature κs) (s : AtExit T κs)
+      → (c M 𝓤 𝓛 mem run κs a).ensures g r s ≡ fact 𝓤 (Post κs a r s))
       → ((κs : Lfts T.signature.lifetimes) (a : Args T.signature κs) (x y : Res T.signature κs) (v w : Lasts T κs a)
-          → Post κs a x (at_exit T κs a v) → Post κs a y (at_exit T κs a w) → Same κs x y × (v ≡ w))
+      → Post κs a x (at_exit T κs a v) → Post κs a y (at_exit T κs a w) → Same κs x y × (v ≡ w))
       → SingleBy T c Same
   one_fact are once = record {
     Post = Post;
@@ -67,10 +67,10 @@ module _ {T : Ended}
 
   behind_tie : (tie : (κs : Lfts T.signature.lifetimes) → Args T.signature κs → Res T.signature κs → Fml)
       → ((M : Type 1) (𝓤 : Ura M) (𝓛 : Logic 𝓤) (mem : Memory → SProp 𝓤) (run : Routine → Fun 𝓤)
-          (κs : Lfts T.signature.lifetimes) (a : Args T.signature κs) (g : (c M 𝓤 𝓛 mem run κs a).ghost) (r : Res T.signature κs) (s : AtExit T κs)
-          → (c M 𝓤 𝓛 mem run κs a).ensures g r s ≡ sep 𝓤 (sem 𝓛 (tie κs a r)) (fact 𝓤 (Post κs a r s)))
+      (κs : Lfts T.signature.lifetimes) (a : Args T.signature κs) (g : (c M 𝓤 𝓛 mem run κs a).ghost) (r : Res T.signature κs) (s : AtExit T κs)
+      → (c M 𝓤 𝓛 mem run κs a).ensures g r s ≡ sep 𝓤 (sem 𝓛 (tie κs a r)) (fact 𝓤 (Post κs a r s)))
       → ((κs : Lfts T.signature.lifetimes) (a : Args T.signature κs) (x y : Res T.signature κs) (v w : Lasts T κs a)
-          → Post κs a x (at_exit T κs a v) → Post κs a y (at_exit T κs a w) → Same κs x y × (v ≡ w))
+      → Post κs a x (at_exit T κs a v) → Post κs a y (at_exit T κs a w) → Same κs x y × (v ≡ w))
       → SingleBy T c Same
   behind_tie tie are once = record {
     Post = Post;
