@@ -10,6 +10,7 @@ use crate::view;
 use base::error::{Area, TpmError};
 use base::field::write_bytes;
 
+// Fixed memory: no heap, so an array and its size, and no Vec.
 #[derive(Clone, Copy)]
 pub struct TpmBuffer<const N: usize> {
     pub size: u16,
@@ -146,7 +147,7 @@ impl<const N: usize> TpmBuffer<N> {
         Ok((TpmBuffer { size, data }, n))
     }
 
-    // Three of these on a record whose room is lent: nothing is copied but the bytes that move.
+    // Three of these on a size and a lent room, as C has them: nothing is copied but the bytes that move.
     #[tactic(auto, using(crate::proofs::Rooms::grown_size), unfolding(crate::specs::Fixed::extended))]
     pub fn extend_lent(size: u16, data: &mut [u8; N], given: &[u8]) -> Result<usize, TpmError>
         ensures result_value { said result ≡ size_said (extended (most N) given.now (buffer size «data».old)) }

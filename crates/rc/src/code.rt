@@ -38,7 +38,7 @@ pub enum Kind {
 #[derive(Clone, Copy, Debug, PartialEq, Eq)]
 pub struct UnknownKind(pub u32);
 
-// What a response code says. `read` may not change, and its single answer has a line in proofs/Single.antt, which a method of TryFrom has not.
+// What a response code says. README and docs/ name `read`, and a TryFrom beside it would say the same.
 pub fn read(rc: TpmRc) -> Result<Code, TpmError>
     ensures { said result ≡ read_code rc.0 }
 {
