@@ -1,9 +1,6 @@
 pub mod Fields
 pub mod Keepers
-pub mod Laid
-pub mod Naming
 pub mod Never
 pub mod Numbered
 pub mod Reported
-pub mod Ruled
 pub mod Single

@@ -1,7 +1,6 @@
 -- What goes out of a fixed buffer: its size as a number, and its room into the room that was lent.
 -- Assumes nothing: these are definitions.
 use Rattle.std.specs.Prelude.{ℕ, ◌-◌, List, [], ◌∷◌}
-use Rattle.base.specs.Said.{Said, gives, refuses}
 use Rattle.buffer.specs.Fixed.{Buffer}
 
 abbrev pub size_alone : Buffer → List ℕ
@@ -10,8 +9,3 @@ size_alone b = b.size ∷ []
 -- of a TPM2B that took n bytes, the size and n
 abbrev pub size_and_wire : ℕ → List ℕ
 size_and_wire n = (n - 2) ∷ n ∷ []
-
--- an answer with the buffer beside it
-abbrev pub laid : Said (Unit {0}) → Buffer → Said Buffer
-laid (gives u) b = gives b
-laid (refuses why) b = refuses why

@@ -1,6 +1,7 @@
 -- The rules that a number names; one that names none is refused with a number from 100 on, as document 01's own say nothing of it.
 -- Assumes nothing: these are definitions.
-use Rattle.std.specs.Prelude.{ℕ, ◌/◌, ◌%◌, Bool, cond, [], ◌∷◌, eqb}
+use Rattle.std.specs.Prelude.{ℕ, ◌/◌, ◌%◌, Bool, cond, [], ◌∷◌, eqb, Result}
+use Rattle.base.specs.Answer.{said_by}
 use Rattle.base.specs.Said.{Why, no_area, Said, gives, refuses, needs, then}
 use Rattle.table.specs.declared.revision.Revision.{Revision}
 use Rattle.table.specs.declared.revision.Revision.TheVariants as revision
@@ -12,12 +13,8 @@ use Rattle.marshal.specs.declared.mode.Mode.{Mode}
 use Rattle.marshal.specs.declared.mode.Mode.TheVariants as mode
 use Rattle.marshal.specs.declared.mode.ResponseRules.{ResponseRules}
 use Rattle.marshal.specs.Mode.{asked, book_for}
-use Rattle.capi.specs.declared.rules.Named.{Named}
-use Rattle.capi.specs.declared.rules.Named.TheVariants as named
-use Rattle.capi.specs.declared.rules.NamedMode.{NamedMode}
-use Rattle.capi.specs.declared.rules.NamedMode.TheVariants as named-mode
-use Rattle.capi.specs.declared.rules.NamedRevision.{NamedRevision}
-use Rattle.capi.specs.declared.rules.NamedRevision.TheVariants as named-revision
+use Rattle.capi.specs.declared.rules.Unknown.{Unknown}
+use Rattle.capi.specs.declared.rules.Unknown.TheVariants as number
 
 abbrev pub no_rules : ℕ → Why
 no_rules n = no_area (101 ∷ 0 ∷ n ∷ [])
@@ -66,17 +63,13 @@ mode_numbered n =
 unfoldable pub revision_numbered : ℕ → Said Revision
 revision_numbered n = needs (eqb (n % 16) 0) (no_rules n) (table_named n (n / 16))
 
-abbrev pub said_rules : Named → Said Rules
-said_rules (named.Is rules) = gives rules
-said_rules (named.Unknown n) = unnamed n
+-- what a number in a call was found to name, a kind of response code (specs/Code.antt) among it
+abbrev pub unknown : Unknown → Why
+unknown (number.Kind n) = no_area (100 ∷ 0 ∷ n ∷ [])
+unknown (number.Rules n) = no_rules n
 
-abbrev pub said_mode : NamedMode → Said ResponseRules
-said_mode (named-mode.Is rules) = gives rules
-said_mode (named-mode.Unknown n) = unnamed n
-
-abbrev pub said_revision : NamedRevision → Said Revision
-said_revision (named-revision.Is table) = gives table
-said_revision (named-revision.Unknown n) = unnamed n
+abbrev pub named : {A : Type 0} → Result A Unknown → Said A
+named = said_by (λ x. x) unknown
 
 -- what is said by the rules that a number names, or at the table
 abbrev pub under : {A : Type 0} → ℕ → (Rulebook → Said A) → Said A

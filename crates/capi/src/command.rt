@@ -11,52 +11,55 @@ ghost use Rattle.capi.specs.Frame.{no_command, part_and_tail};
 ghost use Rattle.capi.specs.Rules.{under};
 ghost use Rattle.capi.specs.Out.{Reports, ends, none, one};
 
-use crate::out;
-use crate::out::Numbers;
-use crate::rules::{Named, UNKNOWN, rules_named};
+use crate::out::{Numbers, Refused, report, with_tail};
+use crate::rules::{report_by, rules_named};
 use base::code::{TpmCc, TpmSt};
 use base::part::Span;
-use frame::command::{Command, CommandRead};
+use frame::command::Command;
 use frame::session::Entries;
 
 #[unsafe(no_mangle)]
 pub extern "C" fn skein_command_cast(rules: u32, s: &[u8], out: &mut Numbers) -> u32
     ensures { Reports ends (under rules λ book. whole s.now (cast_command book s.now)) out.old out.new result }
 {
-    match rules_named(rules) {
-        Named::Unknown(n) => out::unnamed(UNKNOWN, n, out),
-        Named::Is(by) => out::range(frame::command::cast_range(by, s), out),
-    }
+    report_by(
+        rules_named(rules),
+        |by| frame::command::cast_range(by, s),
+        out,
+    )
 }
 
 #[unsafe(no_mangle)]
 pub extern "C" fn skein_command_handles(rules: u32, s: &[u8], out: &mut Numbers) -> u32
     ensures { Reports ends (under rules λ book. handles_range book s.now) out.old out.new result }
 {
-    match rules_named(rules) {
-        Named::Unknown(n) => out::unnamed(UNKNOWN, n, out),
-        Named::Is(by) => out::range(frame::command::handles_range(by, s), out),
-    }
+    report_by(
+        rules_named(rules),
+        |by| frame::command::handles_range(by, s),
+        out,
+    )
 }
 
 #[unsafe(no_mangle)]
 pub extern "C" fn skein_command_auth_area(rules: u32, s: &[u8], out: &mut Numbers) -> u32
     ensures { Reports ends (under rules λ book. auth_range book s.now) out.old out.new result }
 {
-    match rules_named(rules) {
-        Named::Unknown(n) => out::unnamed(UNKNOWN, n, out),
-        Named::Is(by) => out::range(frame::command::auth_area_range(by, s), out),
-    }
+    report_by(
+        rules_named(rules),
+        |by| frame::command::auth_area_range(by, s),
+        out,
+    )
 }
 
 #[unsafe(no_mangle)]
 pub extern "C" fn skein_command_parameters(rules: u32, s: &[u8], out: &mut Numbers) -> u32
     ensures { Reports ends (under rules λ book. parameters_range book s.now) out.old out.new result }
 {
-    match rules_named(rules) {
-        Named::Unknown(n) => out::unnamed(UNKNOWN, n, out),
-        Named::Is(by) => out::range(frame::command::parameters_range(by, s), out),
-    }
+    report_by(
+        rules_named(rules),
+        |by| frame::command::parameters_range(by, s),
+        out,
+    )
 }
 
 // Where the command at the start stands, and where what is behind it.
@@ -65,8 +68,8 @@ pub extern "C" fn skein_command_cast_prefix(rules: u32, s: &[u8], out: &mut Numb
     ensures { Reports (part_and_tail (length s.now)) (under rules λ book. up_to (cast_command_prefix book s.now)) out.old out.new result }
 {
     match rules_named(rules) {
-        Named::Unknown(n) => out::unnamed(UNKNOWN, n, out),
-        Named::Is(by) => out::with_tail(frame::command::cast_prefix_range(by, s), s.len(), out),
+        Ok(by) => with_tail(frame::command::cast_prefix_range(by, s), s.len(), out),
+        Err(unknown) => unknown.store(out),
     }
 }
 
@@ -74,20 +77,18 @@ pub extern "C" fn skein_command_cast_prefix(rules: u32, s: &[u8], out: &mut Numb
 pub extern "C" fn skein_command_validate(rules: u32, s: &[u8], out: &mut Numbers) -> u32
     ensures { Reports none (under rules λ book. done (read_command book s.now)) out.old out.new result }
 {
-    match rules_named(rules) {
-        Named::Unknown(n) => out::unnamed(UNKNOWN, n, out),
-        Named::Is(by) => out::outcome(frame::command::validate(by, s), out),
-    }
+    report_by(
+        rules_named(rules),
+        |by| frame::command::validate(by, s),
+        out,
+    )
 }
 
 #[unsafe(no_mangle)]
 pub extern "C" fn skein_command_cc(rules: u32, s: &[u8], out: &mut Numbers) -> u32
     ensures { Reports one (under rules λ book. read_cc book s.now) out.old out.new result }
 {
-    match rules_named(rules) {
-        Named::Unknown(n) => out::unnamed(UNKNOWN, n, out),
-        Named::Is(by) => out::command_code(frame::command::cc(by, s), out),
-    }
+    report_by(rules_named(rules), |by| frame::command::cc(by, s), out)
 }
 
 #[unsafe(no_mangle)]
@@ -96,8 +97,8 @@ pub extern "C" fn skein_command_set_cc(rules: u32, cc: u32, s: &mut [u8], out: &
     ensures s_after { s.new ≡ after s.old (under rules λ book. set_cc book cc s.old) }
 {
     match rules_named(rules) {
-        Named::Unknown(n) => out::unnamed(UNKNOWN, n, out),
-        Named::Is(by) => out::outcome(frame::command::set_cc(by, s, TpmCc(cc)), out),
+        Ok(by) => report(frame::command::set_cc(by, s, TpmCc(cc)), out),
+        Err(unknown) => unknown.store(out),
     }
 }
 
@@ -129,19 +130,19 @@ pub extern "C" fn skein_command_parts(rules: u32, s: &[u8], out: &mut Numbers) -
     ensures command_value { result.command ≡ after no_command (under rules λ book. command_by_value s.now (read_command book s.now)) }
 {
     match rules_named(rules) {
-        Named::Unknown(n) => CommandParts {
-            refusal: out::unnamed(UNKNOWN, n, out),
-            command: no_command(),
-        },
-        Named::Is(by) => match frame::command::parts(by, s) {
-            CommandRead::Refused(e) => CommandParts {
-                refusal: out::refuse(e, out),
-                command: no_command(),
-            },
-            CommandRead::Is(command) => CommandParts {
+        Ok(by) => match frame::command::parts(by, s) {
+            Ok(command) => CommandParts {
                 refusal: 0,
                 command,
             },
+            Err(e) => CommandParts {
+                refusal: e.store(out),
+                command: no_command(),
+            },
+        },
+        Err(unknown) => CommandParts {
+            refusal: unknown.store(out),
+            command: no_command(),
         },
     }
 }
@@ -163,8 +164,7 @@ pub extern "C" fn skein_command_write(
     ensures room_after { room.new ≡ room_after room.old (under rules λ book. write_command book tag cc (handed handles.now sessions lent.now parameters.now) (length room.old)) }
 {
     match rules_named(rules) {
-        Named::Unknown(n) => out::unnamed(UNKNOWN, n, out),
-        Named::Is(by) => {
+        Ok(by) => {
             let written = marshal::command::write(
                 by,
                 TpmSt(tag),
@@ -175,7 +175,8 @@ pub extern "C" fn skein_command_write(
                 parameters,
                 room,
             );
-            out::total(written, out)
+            report(written, out)
         }
+        Err(unknown) => unknown.store(out),
     }
 }

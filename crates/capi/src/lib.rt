@@ -12,6 +12,7 @@ pub mod code;
 pub mod command;
 pub mod dispatch;
 pub mod field;
+mod fixed;
 pub mod header;
 pub mod nonce;
 pub mod out;

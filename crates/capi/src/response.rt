@@ -11,22 +11,22 @@ ghost use Rattle.capi.specs.Frame.{no_response, part_and_tail};
 ghost use Rattle.capi.specs.Rules.{under, under_mode};
 ghost use Rattle.capi.specs.Out.{Reports, ends, none, one};
 
-use crate::out;
-use crate::out::Numbers;
-use crate::rules::{Named, NamedMode, UNKNOWN, mode_named, rules_named};
+use crate::out::{Numbers, Refused, report, with_tail};
+use crate::rules::{report_by, response_rules_named, rules_named};
 use base::code::{TpmCc, TpmRc, TpmSt};
 use base::part::Span;
-use frame::response::{Response, ResponseRead};
+use frame::response::Response;
 use frame::session::Entries;
 
 #[unsafe(no_mangle)]
 pub extern "C" fn skein_response_cast(rules: u32, s: &[u8], out: &mut Numbers) -> u32
     ensures { Reports ends (under rules λ book. whole s.now (cast_response book s.now)) out.old out.new result }
 {
-    match rules_named(rules) {
-        Named::Unknown(n) => out::unnamed(UNKNOWN, n, out),
-        Named::Is(by) => out::range(frame::response::cast_range(by, s), out),
-    }
+    report_by(
+        rules_named(rules),
+        |by| frame::response::cast_range(by, s),
+        out,
+    )
 }
 
 // Where the response at the start stands, and where what is behind it.
@@ -35,8 +35,8 @@ pub extern "C" fn skein_response_cast_prefix(rules: u32, s: &[u8], out: &mut Num
     ensures { Reports (part_and_tail (length s.now)) (under rules λ book. up_to (cast_response_prefix book s.now)) out.old out.new result }
 {
     match rules_named(rules) {
-        Named::Unknown(n) => out::unnamed(UNKNOWN, n, out),
-        Named::Is(by) => out::with_tail(frame::response::cast_prefix_range(by, s), s.len(), out),
+        Ok(by) => with_tail(frame::response::cast_prefix_range(by, s), s.len(), out),
+        Err(unknown) => unknown.store(out),
     }
 }
 
@@ -44,20 +44,18 @@ pub extern "C" fn skein_response_cast_prefix(rules: u32, s: &[u8], out: &mut Num
 pub extern "C" fn skein_response_validate(rules: u32, cc: u32, s: &[u8], out: &mut Numbers) -> u32
     ensures { Reports none (under rules λ book. done (read_response book cc s.now)) out.old out.new result }
 {
-    match rules_named(rules) {
-        Named::Unknown(n) => out::unnamed(UNKNOWN, n, out),
-        Named::Is(by) => out::outcome(frame::response::validate(by, TpmCc(cc), s), out),
-    }
+    report_by(
+        rules_named(rules),
+        |by| frame::response::validate(by, TpmCc(cc), s),
+        out,
+    )
 }
 
 #[unsafe(no_mangle)]
 pub extern "C" fn skein_response_rc(rules: u32, s: &[u8], out: &mut Numbers) -> u32
     ensures { Reports one (under rules λ book. read_rc book s.now) out.old out.new result }
 {
-    match rules_named(rules) {
-        Named::Unknown(n) => out::unnamed(UNKNOWN, n, out),
-        Named::Is(by) => out::response_code(frame::response::rc(by, s), out),
-    }
+    report_by(rules_named(rules), |by| frame::response::rc(by, s), out)
 }
 
 #[unsafe(no_mangle)]
@@ -66,8 +64,8 @@ pub extern "C" fn skein_response_set_rc(rules: u32, rc: u32, s: &mut [u8], out: 
     ensures s_after { s.new ≡ after s.old (under rules λ book. set_rc book rc s.old) }
 {
     match rules_named(rules) {
-        Named::Unknown(n) => out::unnamed(UNKNOWN, n, out),
-        Named::Is(by) => out::outcome(frame::response::set_rc(by, s, TpmRc(rc)), out),
+        Ok(by) => report(frame::response::set_rc(by, s, TpmRc(rc)), out),
+        Err(unknown) => unknown.store(out),
     }
 }
 
@@ -75,7 +73,7 @@ pub extern "C" fn skein_response_set_rc(rules: u32, rc: u32, s: &mut [u8], out: 
 pub extern "C" fn skein_response_body(s: &[u8], out: &mut Numbers) -> u32
     ensures { Reports ends (body_range s.now) out.old out.new result }
 {
-    out::range(frame::response::body_range(s), out)
+    report(frame::response::body_range(s), out)
 }
 
 // All parts of a response to the command cc, by value as of a command.
@@ -111,19 +109,19 @@ pub extern "C" fn skein_response_parts(
     ensures response_value { result.response ≡ after no_response (under rules λ book. response_by_value s.now (read_response book cc s.now)) }
 {
     match rules_named(rules) {
-        Named::Unknown(n) => ResponseParts {
-            refusal: out::unnamed(UNKNOWN, n, out),
-            response: no_response(),
-        },
-        Named::Is(by) => match frame::response::parts(by, TpmCc(cc), s) {
-            ResponseRead::Refused(e) => ResponseParts {
-                refusal: out::refuse(e, out),
-                response: no_response(),
-            },
-            ResponseRead::Is(response) => ResponseParts {
+        Ok(by) => match frame::response::parts(by, TpmCc(cc), s) {
+            Ok(response) => ResponseParts {
                 refusal: 0,
                 response,
             },
+            Err(e) => ResponseParts {
+                refusal: e.store(out),
+                response: no_response(),
+            },
+        },
+        Err(unknown) => ResponseParts {
+            refusal: unknown.store(out),
+            response: no_response(),
         },
     }
 }
@@ -144,9 +142,8 @@ pub extern "C" fn skein_response_write(
     ensures reports { Reports one (under_mode rules λ book asked. counted (write_response book asked cc rc (handed handles.now sessions lent.now parameters.now) (length room.old))) out.old out.new result }
     ensures room_after { room.new ≡ room_after room.old (under_mode rules λ book asked. write_response book asked cc rc (handed handles.now sessions lent.now parameters.now) (length room.old)) }
 {
-    match mode_named(rules) {
-        NamedMode::Unknown(n) => out::unnamed(UNKNOWN, n, out),
-        NamedMode::Is(by) => {
+    match response_rules_named(rules) {
+        Ok(by) => {
             let written = marshal::response::write(
                 by,
                 TpmRc(rc),
@@ -157,7 +154,8 @@ pub extern "C" fn skein_response_write(
                 parameters,
                 room,
             );
-            out::total(written, out)
+            report(written, out)
         }
+        Err(unknown) => unknown.store(out),
     }
 }

@@ -1,94 +1,113 @@
-// The rules that a number names: sixteen times the table's, and the reading's or the mode's.
-ghost use Rattle.std.specs.Prelude.{◌≡◌};
-ghost use Rattle.capi.specs.Rules.{mode_numbered, revision_numbered, rules_numbered, said_mode, said_revision, said_rules, table_named};
+// What a number in a call names: a kind of response code; a table; rules, sixteen times the table's number and the reading's; or a mode,
+// sixteen times the table's and the mode's.
+ghost use Rattle.std.specs.Prelude.{◌≡◌, Result};
+ghost use Rattle.base.specs.Answer.{said_by};
+ghost use Rattle.base.specs.Said.{Said, then};
+ghost use Rattle.capi.specs.Out.{Reports};
+ghost use Rattle.capi.specs.Rules.{mode_named, mode_numbered, named, reading_named, revision_numbered, rules_numbered, table_named, unknown};
 
+use crate::out::{Answer, Numbers, Refused, report, two};
+use base::error::Area;
 use frame::rules::{Reading, Rules};
 use marshal::mode::{Mode, ResponseRules};
 use table::revision::Revision;
 
-// The refusal of a number that names none: its number is this crate's own.
-pub(crate) const UNKNOWN: u32 = 101;
-
+// A number that names nothing. Its refusal's number is this crate's own.
 #[derive(Clone, Copy)]
-pub(crate) enum NamedRevision {
-    Is(Revision),
-    Unknown(u32),
+pub(crate) enum Unknown {
+    Kind(u32),
+    Rules(u32),
+}
+
+impl Refused for Unknown {
+    ghost why = { unknown };
+
+    fn store(self, out: &mut Numbers) -> u32 {
+        match self {
+            Unknown::Kind(n) => two(100, Area::None, 0, n as u64, out),
+            Unknown::Rules(n) => two(101, Area::None, 0, n as u64, out),
+        }
+    }
 }
 
 // The table at a place of their list, in a number.
-fn table_named(number: u32, place: u32) -> NamedRevision
-    ensures { said_revision result ≡ table_named number place }
+fn table_named(number: u32, place: u32) -> Result<Revision, Unknown>
+    ensures { named result ≡ table_named number place }
 {
     match place {
-        0 => NamedRevision::Is(Revision::Crate),
-        1 => NamedRevision::Is(Revision::Lib138),
-        2 => NamedRevision::Is(Revision::Lib159),
-        _ => NamedRevision::Unknown(number),
+        0 => Ok(Revision::Crate),
+        1 => Ok(Revision::Lib138),
+        2 => Ok(Revision::Lib159),
+        _ => Err(Unknown::Rules(number)),
     }
 }
 
 // Of a call that takes a table alone.
-pub(crate) fn revision_named(number: u32) -> NamedRevision
-    ensures { said_revision result ≡ revision_numbered number }
+#[tactic(auto, unfolding(crate::specs::Rules::revision_numbered))]
+pub(crate) fn revision_named(number: u32) -> Result<Revision, Unknown>
+    ensures { named result ≡ revision_numbered number }
 {
     if number % 16 == 0 {
-        return table_named(number, number / 16);
+        table_named(number, number / 16)
+    } else {
+        Err(Unknown::Rules(number))
     }
-    NamedRevision::Unknown(number)
 }
 
-#[derive(Clone, Copy)]
-pub(crate) enum Named {
-    Is(Rules),
-    Unknown(u32),
+// The reading at a place of their list, in a number.
+fn reading_named(number: u32, place: u32) -> Result<Reading, Unknown>
+    ensures { named result ≡ reading_named number place }
+{
+    match place {
+        0 => Ok(Reading::Rust),
+        1 => Ok(Reading::Standard),
+        _ => Err(Unknown::Rules(number)),
+    }
 }
 
 // Of a call that judges a frame, and of the writer of commands.
-pub(crate) fn rules_named(number: u32) -> Named
-    ensures { said_rules result ≡ rules_numbered number }
+#[tactic(auto, unfolding(crate::specs::Rules::rules_numbered))]
+pub(crate) fn rules_named(number: u32) -> Result<Rules, Unknown>
+    ensures { named result ≡ rules_numbered number }
 {
-    match table_named(number, number / 16) {
-        NamedRevision::Unknown(n) => Named::Unknown(n),
-        NamedRevision::Is(revision) => match number % 16 {
-            0 => Named::Is(Rules {
-                reading: Reading::Rust,
-                revision,
-            }),
-            1 => Named::Is(Rules {
-                reading: Reading::Standard,
-                revision,
-            }),
-            _ => Named::Unknown(number),
-        },
+    let revision = table_named(number, number / 16)?;
+    let reading = reading_named(number, number % 16)?;
+    Ok(Rules { reading, revision })
+}
+
+// The mode at a place of their list, in a number.
+fn mode_named(number: u32, place: u32) -> Result<Mode, Unknown>
+    ensures { named result ≡ mode_named number place }
+{
+    match place {
+        0 => Ok(Mode::Rust),
+        1 => Ok(Mode::Standard),
+        2 => Ok(Mode::BadTag),
+        _ => Err(Unknown::Rules(number)),
     }
 }
 
-#[derive(Clone, Copy)]
-pub(crate) enum NamedMode {
-    Is(ResponseRules),
-    Unknown(u32),
+// Of the writer of responses.
+#[tactic(auto, unfolding(crate::specs::Rules::mode_numbered))]
+pub(crate) fn response_rules_named(number: u32) -> Result<ResponseRules, Unknown>
+    ensures { named result ≡ mode_numbered number }
+{
+    let revision = table_named(number, number / 16)?;
+    let mode = mode_named(number, number % 16)?;
+    Ok(ResponseRules { mode, revision })
 }
 
-// Of the writer of responses.
-pub(crate) fn mode_named(number: u32) -> NamedMode
-    ensures { said_mode result ≡ mode_numbered number }
+// What a call answers by what a number names.
+pub(crate) fn report_by<R, T: Answer, E: Refused, F: FnOnce(R) -> Result<T, E>>(
+    name: Result<R, Unknown>,
+    call: F,
+    out: &mut Numbers,
+) -> u32
+    requires { F.IsAlwaysCallable call }
+    ensures { (say : R → Said T.Told) → ((by : R) (a : Result T E) → F.post call by a → said_by T.told E.why a ≡ say by) → Reports T.numbers (then (named name) say) out.old out.new result }
 {
-    match table_named(number, number / 16) {
-        NamedRevision::Unknown(n) => NamedMode::Unknown(n),
-        NamedRevision::Is(revision) => match number % 16 {
-            0 => NamedMode::Is(ResponseRules {
-                mode: Mode::Rust,
-                revision,
-            }),
-            1 => NamedMode::Is(ResponseRules {
-                mode: Mode::Standard,
-                revision,
-            }),
-            2 => NamedMode::Is(ResponseRules {
-                mode: Mode::BadTag,
-                revision,
-            }),
-            _ => NamedMode::Unknown(number),
-        },
+    match name {
+        Ok(by) => report(call(by), out),
+        Err(unknown) => unknown.store(out),
     }
 }

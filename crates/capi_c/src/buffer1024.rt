@@ -6,7 +6,7 @@ ghost use Rattle.buffer.specs.View.{prefix};
 ghost use Rattle.capi.specs.Buffer.{size_and_wire, size_alone};
 ghost use Rattle.capi.specs.Out.{Reports, one, truth};
 
-use buffer::fixed1024::Room;
+use capi::buffer1024::Room;
 use capi::out::Numbers;
 
 #[unsafe(no_mangle)]
