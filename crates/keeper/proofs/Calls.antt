@@ -8,10 +8,12 @@ use Prim.Native.Nat.{ℕ, suc, ◌+◌, ◌-◌, ◌≤◌, ◌<◌}
 use native.Mathlib.Omega.{arith}
 use borrow.Author.Tests.{le-leb, lt-leb, lt-ltb, le-ltb}
 use lib.ListN.{length, set, take, drop, length-set}
+use Rattle.std.specs.Prelude.{Option, Some, None}
+use Rattle.std.specs.Option.{is_some}
 use Rattle.base.specs.Answer.{Part}
 use Rattle.base.specs.Said.{Why, no_area, Said, gives, refuses, then, done, after}
 use Rattle.keeper.specs.Keeper.{Open, session, already_open, all_open, not_open, is_open, asked, without, opened, closed}
-use Rattle.keeper.specs.State.{nonce_place, count_of, handle_at, size_at, nonce_at, open_at, below, held, place_below, place_of, put, shifted, nonce_range, asked_in, bytes_of}
+use Rattle.keeper.specs.State.{nonce_place, count_of, handle_at, size_at, nonce_at, open_at, counted, below, held, place_below, place_of, put, shifted, nonce_range, asked_in, bytes_of}
 use Rattle.keeper.proofs.Found.{length_held, below_same, place_most, open_found, open_not_found, asked_found, asked_not_found, without_found}
 use Rattle.keeper.proofs.Places.{count_most, size_most, length_nonce, length_put, open_put, other_put, open_counted, count_counted}
 
@@ -32,74 +34,73 @@ module _ (s : List ℕ) where
 
 -- ---- the place that is found
 
-module _ (s : List ℕ) (handle : ℕ) {p : ℕ} (at : p ≡ place_of s handle) where
-  pub is_open_lem : 0 < p → is_open handle (held s) ≡ true
+module _ (s : List ℕ) (handle : ℕ) where
+  pub is_open_lem : {i : ℕ} → suc i ≡ place_of s handle → is_open handle (held s) ≡ true
   unfolding held place_of
-  is_open_lem h = let one : p ≡ suc (p - 1) = omega arith in open_found s handle (count_of s) (p - 1) (sym at ∙ one)
+  is_open_lem {i} at = open_found s handle (count_of s) i (sym at)
 
-  pub is_not_open : p ≡ 0 → is_open handle (held s) ≡ false
+  pub is_not_open : 0 ≡ place_of s handle → is_open handle (held s) ≡ false
   unfolding held place_of
-  is_not_open e = open_not_found s handle (count_of s) (sym at ∙ e)
+  is_not_open none = open_not_found s handle (count_of s) (sym none)
 
-  pub found_inside : p ≤ count_of s
+  pub open_where : (found : Option ℕ) → counted found ≡ place_of s handle → is_open handle (held s) ≡ is_some found
+  open_where (Some i) at = is_open_lem at
+  open_where None at = is_not_open at
+
+  pub found_inside : {p : ℕ} → p ≡ place_of s handle → p ≤ count_of s
   unfolding place_of
-  found_inside = rw at (place_most s handle (count_of s))
+  found_inside at = rw at (place_most s handle (count_of s))
+
+  -- one of the 64 places, and one of those that are open
+  pub found_few : {i : ℕ} → suc i ≡ place_of s handle → (i < 64) × (i < count_of s)
+  found_few at = let inside = found_inside at in let most = count_most s in (omega arith, omega arith)
 
   -- ---- opening
 
   module _ (nonce : List ℕ) where
-    pub opened_already : 0 < p → refuses already_open ≡ opened handle nonce (held s)
+    pub opened_already : is_open handle (held s) ≡ true → refuses already_open ≡ opened handle nonce (held s)
     unfolding opened
-    opened_already h = simp (is_open_lem h)
+    opened_already is = simp is
 
-    module _ (free : p ≡ 0) where
+    module _ (free : is_open handle (held s) ≡ false) where
       pub opened_long : 64 < length nonce → refuses (no_area (8 ∷ 0 ∷ 64 ∷ length nonce ∷ [])) ≡ opened handle nonce (held s)
       unfolding opened
-      opened_long h = simp (is_not_open free, lt-leb (length nonce) 64 h)
+      opened_long h = simp (free, lt-leb (length nonce) 64 h)
 
       module _ (few : length nonce ≤ 64) {n : ℕ} (count : n ≡ count_of s) where
         pub opened_full : 64 ≤ n → refuses all_open ≡ opened handle nonce (held s)
         unfolding opened
-        opened_full h = simp (is_not_open free, le-leb (length nonce) 64 few, le-ltb (length (held s)) 64 (rw (length_held s, ← count) h))
+        opened_full h = simp (free, le-leb (length nonce) 64 few, le-ltb (length (held s)) 64 (rw (length_held s, ← count) h))
 
         pub opened_given : n < 64 → gives (session handle nonce ∷ held s) ≡ opened handle nonce (held s)
         unfolding opened
-        opened_given h = simp (is_not_open free, le-leb (length nonce) 64 few, lt-ltb (length (held s)) 64 (rw (length_held s, ← count) h))
+        opened_given h = simp (free, le-leb (length nonce) 64 few, lt-ltb (length (held s)) 64 (rw (length_held s, ← count) h))
 
   -- ---- closing
 
-  pub closed_not : p ≡ 0 → refuses not_open ≡ closed handle (held s)
+  pub closed_not : 0 ≡ place_of s handle → refuses not_open ≡ closed handle (held s)
   unfolding closed
-  closed_not e = simp (is_not_open e)
+  closed_not none = simp (is_not_open none)
 
-  pub closed_given : 0 < p → gives (without handle (held s)) ≡ closed handle (held s)
+  pub closed_given : {i : ℕ} → suc i ≡ place_of s handle → gives (without handle (held s)) ≡ closed handle (held s)
   unfolding closed
-  closed_given h = simp (is_open_lem h)
+  closed_given at = simp (is_open_lem at)
 
   -- ---- asking
 
-  abbrev range : ℕ → Said Part
-  range n = gives (record { from = nonce_place (p - 1); to = nonce_place (p - 1) + n })
+  pub asked_not : 0 ≡ place_of s handle → (bytes_of (refuses not_open) s ≡ asked handle (held s)) × (refuses not_open ≡ asked_in handle s)
+  unfolding held place_of asked_in
+  asked_not none = (sym (asked_not_found s handle (count_of s) (sym none)), ap (nonce_range s) none)
 
-  not_there : p ≡ 0 → refuses not_open ≡ asked_in handle s
-  unfolding asked_in
-  not_there e = ap (nonce_range s) (sym e ∙ at)
+  abbrev range : ℕ → ℕ → Said Part
+  range i n = gives (record { from = nonce_place i; to = nonce_place i + n })
 
-  there : 0 < p → {n : ℕ} → n ≡ size_at s (p - 1) → range n ≡ asked_in handle s
-  unfolding asked_in
-  there h size = let one : suc (p - 1) ≡ p = omega arith in ap range size ∙ ap (nonce_range s) (one ∙ at)
-
-  pub asked_not : p ≡ 0 → (bytes_of (refuses not_open) s ≡ asked handle (held s)) × (refuses not_open ≡ asked_in handle s)
-  unfolding held place_of
-  asked_not e = (sym (asked_not_found s handle (count_of s) (sym at ∙ e)), not_there e)
-
-  pub asked_there : 0 < p → {n : ℕ} → n ≡ size_at s (p - 1) → (bytes_of (range n) s ≡ asked handle (held s)) × (range n ≡ asked_in handle s)
-  unfolding held place_of nonce_at
-  asked_there h {n} size =
-      let one : p ≡ suc (p - 1) = omega arith in
-      let long : nonce_place (p - 1) + n - nonce_place (p - 1) ≡ size_at s (p - 1) = omega arith in (
-        ap (λ (k : ℕ). gives (take k (drop (nonce_place (p - 1)) s))) long ∙ sym (asked_found s handle (count_of s) (p - 1) (sym at ∙ one)),
-        there h size,
+  pub asked_there : {i : ℕ} → suc i ≡ place_of s handle → {n : ℕ} → n ≡ size_at s i → (bytes_of (range i n) s ≡ asked handle (held s)) × (range i n ≡ asked_in handle s)
+  unfolding held place_of asked_in nonce_at
+  asked_there {i} at {n} size =
+      let long : nonce_place i + n - nonce_place i ≡ size_at s i = omega arith in (
+        ap (λ (k : ℕ). gives (take k (drop (nonce_place i) s))) long ∙ sym (asked_found s handle (count_of s) i (sym at)),
+        ap (range i) size ∙ ap (nonce_range s) at,
       )
 
 -- ---- the sessions of the bytes that are left

@@ -41,7 +41,7 @@ module _ (s : List ℕ) (handle : ℕ) where
       by false h = omega arith
 
   -- one more place has the handle or not
-  pub place_hit : (n : ℕ) → 0 < n → handle_at s (n - 1) ≡ handle → place_below s handle n ≡ n - 1 + 1
+  pub place_hit : (n : ℕ) → 0 < n → handle_at s (n - 1) ≡ handle → place_below s handle n ≡ suc (n - 1)
   unfolding place_below
   place_hit zero h e = absurd (omega arith)
   place_hit (suc n) h e =

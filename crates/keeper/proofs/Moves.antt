@@ -3,7 +3,7 @@
 use mathlib.Core.Path.{◌≡◌, refl, sym, ◌∙◌, ap}
 use mathlib.Core.Bool.{Bool, true, false, ◌&&◌, ◌||◌, cond, and-false}
 use mathlib.Core.List.{List, [], ◌∷◌}
-use Prim.Native.Nat.{ℕ, zero, suc, ◌+◌, ◌-◌, ◌≤◌, ◌<◌}
+use Prim.Native.Nat.{ℕ, zero, suc, ◌≤◌, ◌<◌}
 use native.Mathlib.Omega.{arith}
 use borrow.Author.Tests.{eqb-true, eqb-false, eq-eqb, ne_eqb, lt-ltb}
 use lib.Dec.{eqb, ltb}
@@ -11,8 +11,9 @@ use lib.ListN.{length, take, drop, length-take}
 use Rattle.frame.specs.declared.session.Field.{Field}
 use Rattle.frame.specs.declared.session.Session.{Session}
 use Rattle.frame.specs.Parts.{field_in}
+use Rattle.std.specs.Bool.{then_some}
 use Rattle.keeper.specs.Keeper.{Open, session, is_open, is_named, repeated, replace, moves, moved}
-use Rattle.keeper.specs.State.{count_of, below, held, place_below, place_of, renewed, renewed_at, moved_in, same_place}
+use Rattle.keeper.specs.State.{count_of, below, held, place_below, place_of, place_named, renewed, renewed_at, moved_in, same_place}
 use Rattle.keeper.proofs.Calls.{is_open_lem, is_not_open, found_inside}
 use Rattle.keeper.proofs.Found.{place_has, replace_found, replace_not_found}
 use Rattle.keeper.proofs.Places.{count_most, length_renewed, count_renewed, handle_renewed, nonce_given, nonce_renewed}
@@ -58,18 +59,8 @@ module _ (s : List ℕ) (all : length s ≡ 4424) (nonce : List ℕ) (few : leng
 -- ---- the nonce of an entry of the answer
 
 module _ (response : List ℕ) (f : Field) where
-  pub field_read : take (f.at + f.size - f.at) (drop f.at response) ≡ field_in response f
-  field_read = let size : f.at + f.size - f.at ≡ f.size = omega arith in ap (λ (n : ℕ). take n (drop f.at response)) size
-
   pub field_short : f.size ≤ 64 → length (field_in response f) ≤ 64
   field_short few = let long = length-take f.size (drop f.at response) in rw long (omega arith)
-
-  pub field_few : f.size ≤ 64 → length (take (f.at + f.size - f.at) (drop f.at response)) ≤ 64
-  field_few few = rw field_read (field_short few)
-
-pub renewed_found : (p : ℕ) → 0 < p → (s : List ℕ) {x y : List ℕ} → x ≡ y → renewed (p - 1) x s ≡ renewed_at p y s
-renewed_found zero h s e = absurd (omega arith)
-renewed_found (suc i) h s e = let one : suc i - 1 ≡ i = omega arith in λ k. renewed (one k) (e k) s
 
 -- ---- several
 
@@ -101,14 +92,14 @@ module _ (s : List ℕ) (one other : ℕ) where
   same_place_lem = by (place_of s one) refl
     where
       by : (p : ℕ) → place_of s one ≡ p → same_place p (place_of s other) ≡ (is_open one (held s) && eqb other one)
-      by zero e = rw (is_not_open s one refl e) refl
-      by (suc i) e = rw (is_open_lem s one refl (rw e (omega arith)), lt-ltb 0 (suc i) (omega arith)) (found_alike i e (eqb other one) refl)
+      by zero e = rw (is_not_open s one (sym e)) refl
+      by (suc i) e = rw (is_open_lem s one (sym e), lt-ltb 0 (suc i) (omega arith)) (found_alike i e (eqb other one) refl)
 
 -- ---- three entries, of which so many are there
 
 -- the place of an entry that is there, and none
 abbrev pub place_if : List ℕ → Bool → Session → ℕ
-place_if s there e = cond there (place_of s e.handle) 0
+place_if s there e = place_named s (then_some there e.handle)
 
 nowhere : (p : ℕ) → same_place p 0 ≡ false
 nowhere zero = refl

@@ -80,7 +80,7 @@ has_place : (s : List ℕ) (handle : ℕ) → is_open handle (held s) ≡ true �
 has_place s handle was = by (place_of s handle) refl
   where
     by : (p : ℕ) → place_of s handle ≡ p → 0 < p
-    by zero e = absurd (false≢true (sym (is_not_open s handle refl e) ∙ was))
+    by zero e = absurd (false≢true (sym (is_not_open s handle (sym e)) ∙ was))
     by (suc i) e = omega arith
 
 -- the last place is one of the sessions

@@ -17,7 +17,7 @@ use Rattle.frame.specs.Parts.{Kept, EachField, entries_of, field_in}
 use Rattle.keeper.specs.Keeper.{Open, handle_repeated, counts_differ, repeated, moves, settling}
 use Rattle.keeper.specs.State.{held, renewed_at, moved_in, settled_in, same_place}
 use Rattle.keeper.proofs.Calls.{found_inside}
-use Rattle.keeper.proofs.Moves.{place_if, length_renewed_at, field_short, repeated_three, moved_three, moves_three}
+use Rattle.keeper.proofs.Moves.{place_if, field_short, repeated_three, moved_three, moves_three}
 use Rattle.keeper.proofs.Places.{count_most}
 
 -- ---- the entries that are there
@@ -48,13 +48,9 @@ place_if_there s n m e h = by (ltb n m) refl h
     by true t h = ltb-true n m t
     by false t h = absurd (omega arith)
 
--- what is asked of a move, and how long the bytes are after it
+-- what is asked of a move
 abbrev Ready : ℕ → List ℕ → Field → Type 0
 Ready p bytes f = (p ≤ 64) × (0 < p → Kept 64 (length bytes) f)
-
-pub length_stored : (s : List ℕ) → length s ≡ 4424 → (p : ℕ) (bytes : List ℕ) (f : Field) → Ready p bytes f → length (renewed_at p (field_in bytes f) s) ≡ 4424
-length_stored s all zero bytes f ready = all
-length_stored s all (suc i) bytes f ready = length_renewed_at s all (field_in bytes f) (field_short bytes f (ready.1 (omega arith)).0) (suc i) ready.0
 
 module _ (s : List ℕ) (command response : Entries) (bytes : List ℕ) (alike : command.count ≡ response.count)
     (each : EachField (Kept 64 (length bytes)) (entries_of response)) where

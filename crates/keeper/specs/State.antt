@@ -2,7 +2,7 @@
 -- places the handle stands from byte 8 on, its last byte first, the size of the nonce from byte 264 on, and the nonce from byte 328 on, 64
 -- bytes for each. Every byte string stands for some sessions: a count or a size above 64 counts as 64.
 -- Assumes nothing: these are definitions.
-use Rattle.std.specs.Prelude.{ℕ, zero, suc, ◌+◌, ◌-◌, ◌*◌, ◌/◌, ◌%◌, Bool, ◌&&◌, cond, List, [], ◌∷◌, eqb, ltb, length, get_or, set, take, drop}
+use Rattle.std.specs.Prelude.{ℕ, zero, suc, ◌+◌, ◌-◌, ◌*◌, ◌/◌, ◌%◌, Bool, ◌&&◌, cond, List, [], ◌∷◌, Option, Some, None, eqb, ltb, length, get_or, set, take, drop}
 use Rattle.base.specs.Answer.{Part}
 use Rattle.base.specs.Bytes.{number}
 use Rattle.base.specs.Field.{laid}
@@ -55,6 +55,19 @@ place_below s handle (suc n) = cond (eqb (handle_at s n) handle) (suc n) (place_
 
 unfoldable pub place_of : List ℕ → ℕ → ℕ
 place_of s handle = place_below s handle (count_of s)
+
+-- a place that was looked for, counted so: that of a number where none was found, which is 0 where all places were looked at
+abbrev pub counted_or : ℕ → Option ℕ → ℕ
+counted_or n None = n
+counted_or n (Some i) = suc i
+
+abbrev pub counted : Option ℕ → ℕ
+counted = counted_or 0
+
+-- the place of the handle of an entry that is there
+abbrev pub place_named : List ℕ → Option ℕ → ℕ
+place_named s None = 0
+place_named s (Some handle) = place_of s handle
 
 -- ---- what they are later
 

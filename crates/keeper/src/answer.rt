@@ -1,11 +1,11 @@
 // An answer of the TPM, with the command that it answers: each open session that the command names moves to the nonce at the same
 // position of the answer.
-ghost use Rattle.std.specs.Prelude.{◌≡◌, ◌||◌, cond, ◌≤◌, ◌<◌, length};
+ghost use Rattle.std.specs.Prelude.{◌≡◌, ◌||◌, ◌≤◌, ◌<◌, length};
 ghost use Rattle.base.specs.Said.{after, done};
 ghost use Rattle.frame.specs.Parts.{EachField, Kept, entries_of, field_in};
 ghost use Rattle.keeper.specs.Keeper.{answered, settling};
 ghost use Rattle.keeper.specs.Refusal.{said_done};
-ghost use Rattle.keeper.specs.State.{answered_in, held, place_of, renewed_at, same_place, settled_in};
+ghost use Rattle.keeper.specs.State.{answered_in, counted, held, place_named, renewed_at, same_place, settled_in};
 
 use crate::refusal::Refusal;
 use crate::state::{State, place, renew};
@@ -13,66 +13,59 @@ use frame::rules::{Reading, Rules};
 use frame::session::{Entries, Session};
 use table::revision::Revision;
 
-// The place of the session that an entry names, counted from 1; 0 where there is no such entry, or the session is not open.
-fn named(s: &[u8], there: bool, e: Session) -> usize
-    requires { length s.now ≡ 4424 }
-    ensures { result ≡ cond there (place_of s.now e.handle) 0 }
+// The place of the session of a handle, where there is one and the session is open.
+fn named(s: &State, handle: Option<u32>) -> Option<usize>
+    ensures { counted result ≡ place_named s.now handle }
 {
-    if there { place(s, e.handle) } else { 0 }
+    place(s, handle?)
 }
 
 // Whether two are one place.
-fn same(first: usize, second: usize) -> bool
-    ensures { result ≡ same_place first second }
+fn same(first: Option<usize>, second: Option<usize>) -> bool
+    ensures { result ≡ same_place (counted first) (counted second) }
 {
-    0 < first && first == second
+    first.is_some() && first == second
 }
 
 // Whether two of three are.
-fn repeated(first: usize, second: usize, third: usize) -> bool
-    ensures { result ≡ (same_place first second || (same_place first third || same_place second third)) }
+fn repeated(first: Option<usize>, second: Option<usize>, third: Option<usize>) -> bool
+    ensures { result ≡ (same_place (counted first) (counted second) || (same_place (counted first) (counted third) || same_place (counted second) (counted third))) }
 {
-    if same(first, second) {
-        return true;
-    }
-    if same(first, third) {
-        return true;
-    }
-    same(second, third)
+    same(first, second) || same(first, third) || same(second, third)
 }
 
 // Gives the session at a place, if there is one, the nonce of an entry of the answer.
-fn move_to(s: &mut [u8], at: usize, e: Session, response: &[u8])
-    requires { (length s.old ≡ 4424) × (at ≤ 64) × (0 < at → Kept 64 (length response.now) e.nonce) }
-    ensures { s.new ≡ renewed_at at (field_in response.now e.nonce) s.old }
+fn move_to(s: &mut State, at: Option<usize>, e: Session, response: &[u8])
+    requires { (counted at ≤ 64) × (0 < counted at → Kept 64 (length response.now) e.nonce) }
+    ensures { s.new ≡ renewed_at (counted at) (field_in response.now e.nonce) s.old }
 {
-    if 0 < at {
+    if let Some(i) = at {
         let from = e.nonce.at;
         let to = from + e.nonce.size as usize;
-        renew(s, at - 1, &response[from..to]);
+        renew(s, i, &response[from..to]);
     }
 }
 
 // What is checked of the entries of the two frames, and then the moves.
-fn settle(s: &mut [u8], command: Entries, response: Entries, bytes: &[u8]) -> Result<(), Refusal>
-    requires { (length s.old ≡ 4424) × (command.count ≤ 3) × (response.count ≤ 3) × EachField (Kept 64 (length bytes.now)) (entries_of response) }
+fn settle(s: &mut State, command: Entries, response: Entries, bytes: &[u8]) -> Result<(), Refusal>
+    requires { (command.count ≤ 3) × (response.count ≤ 3) × EachField (Kept 64 (length bytes.now)) (entries_of response) }
     ensures answer { said_done result ≡ done (settling bytes.now (entries_of command) (entries_of response) (held s.old)) }
     ensures later { s.new ≡ after s.old (settled_in bytes.now (entries_of command) (entries_of response) s.old) }
 {
     let count = command.count;
-    let first = named(s, 0 < count, command.first);
-    let second = named(s, 1 < count, command.second);
-    let third = named(s, 2 < count, command.third);
+    let first = named(s, (0 < count).then_some(command.first.handle));
+    let second = named(s, (1 < count).then_some(command.second.handle));
+    let third = named(s, (2 < count).then_some(command.third.handle));
     if repeated(first, second, third) {
         return Err(Refusal::HandleRepeated);
     }
-    if count == response.count {
-        move_to(s, first, response.first, bytes);
-        move_to(s, second, response.second, bytes);
-        move_to(s, third, response.third, bytes);
-        return Ok(());
+    if count != response.count {
+        return Err(Refusal::CountsDiffer);
     }
-    Err(Refusal::CountsDiffer)
+    move_to(s, first, response.first, bytes);
+    move_to(s, second, response.second, bytes);
+    move_to(s, third, response.third, bytes);
+    Ok(())
 }
 
 // Both frames pass in the standard reading, at the table that is named.

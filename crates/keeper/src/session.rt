@@ -33,7 +33,7 @@ pub fn open(keeper: &mut State, handle: u32, nonce: &[u8]) -> Result<(), Refusal
     ensures sessions { held keeper.new ≡ after (held keeper.old) (opened handle nonce.now (held keeper.old)) }
     ensures bytes { keeper.new ≡ after keeper.old (opened_in handle nonce.now keeper.old) }
 {
-    if 0 < place(keeper, handle) {
+    if place(keeper, handle).is_some() {
         return Err(Refusal::AlreadyOpen);
     }
     if LONGEST < nonce.len() {
@@ -45,12 +45,12 @@ pub fn open(keeper: &mut State, handle: u32, nonce: &[u8]) -> Result<(), Refusal
         }));
     }
     let n = count(keeper);
-    if n < PLACES {
-        put(keeper, n, handle, nonce);
-        keeper[COUNT] = n as u8 + 1;
-        return Ok(());
+    if PLACES <= n {
+        return Err(Refusal::AllOpen);
     }
-    Err(Refusal::AllOpen)
+    put(keeper, n, handle, nonce);
+    keeper[COUNT] = n as u8 + 1;
+    Ok(())
 }
 
 // Closes a session. The last one takes its place.
@@ -59,14 +59,13 @@ pub fn close(keeper: &mut State, handle: u32) -> Result<(), Refusal>
     ensures sessions { held keeper.new ≡ after (held keeper.old) (closed handle (held keeper.old)) }
     ensures bytes { keeper.new ≡ after keeper.old (closed_in handle keeper.old) }
 {
-    let at = place(keeper, handle);
-    if 0 < at {
-        let last = count(keeper) - 1;
-        shift(keeper, last, at - 1);
-        keeper[COUNT] = last as u8;
-        return Ok(());
-    }
-    Err(Refusal::NotOpen)
+    let Some(at) = place(keeper, handle) else {
+        return Err(Refusal::NotOpen);
+    };
+    let last = count(keeper) - 1;
+    shift(keeper, last, at);
+    keeper[COUNT] = last as u8;
+    Ok(())
 }
 
 // Where the nonce of a session stands in the keeper's bytes.
@@ -74,14 +73,12 @@ pub fn ask(keeper: &State, handle: u32) -> Result<Span, Refusal>
     ensures nonce { bytes_of (said_asked result) keeper.now ≡ asked handle (held keeper.now) }
     ensures place { said_asked result ≡ asked_in handle keeper.now }
 {
-    let at = place(keeper, handle);
-    if 0 < at {
-        let i = at - 1;
-        let from = NONCES + 64 * i;
-        return Ok(Span {
-            from,
-            to: from + size_at(keeper, i),
-        });
-    }
-    Err(Refusal::NotOpen)
+    let Some(at) = place(keeper, handle) else {
+        return Err(Refusal::NotOpen);
+    };
+    let from = NONCES + 64 * at;
+    Ok(Span {
+        from,
+        to: from + size_at(keeper, at),
+    })
 }

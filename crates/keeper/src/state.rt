@@ -1,9 +1,7 @@
 // The keeper's bytes: for each of 64 places a handle, the size of a nonce, and room for its bytes; and how many places are open. The
 // open ones are the first so many (specs/State.antt).
-ghost use Rattle.std.specs.Prelude.{◌≡◌, false, cond, ℕ, ◌+◌, ◌≤◌, ◌<◌, eqb, length};
-ghost use Rattle.keeper.specs.State.{capped, count_of, handle_at, place_below, place_of, put, renewed, shifted, size_at};
-
-use base::field::{be32, write_bytes};
+ghost use Rattle.std.specs.Prelude.{◌≡◌, false, ℕ, ◌+◌, ◌≤◌, ◌<◌, length};
+ghost use Rattle.keeper.specs.State.{capped, count_of, counted, counted_or, handle_at, place_below, place_of, put, renewed, shifted, size_at};
 
 pub type State = [u8; 4424];
 
@@ -28,8 +26,8 @@ fn capped(n: u8) -> usize
 }
 
 // How many sessions are open.
-pub(crate) fn count(s: &[u8]) -> usize
-    requires { length s.now ≡ 4424 }
+#[tactic(auto, unfolding(crate::specs::State::count_of))]
+pub(crate) fn count(s: &State) -> usize
     ensures { result ≡ count_of s.now }
 {
     capped(s[COUNT])
@@ -38,107 +36,101 @@ pub(crate) fn count(s: &[u8]) -> usize
 // ---- one place
 
 // Its handle stands with the last byte first, as most machines have their numbers.
-fn handle_at(s: &[u8], i: usize) -> u32
-    requires { (length s.now ≡ 4424) × (i < 64) }
+#[tactic(auto, unfolding(crate::specs::State::handle_at, base::specs::Bytes::number))]
+fn handle_at(s: &State, i: usize) -> u32
+    requires { i < 64 }
     ensures { result ≡ handle_at s.now i }
 {
     let at = HANDLES + 4 * i;
-    be32(s[at + 3], s[at + 2], s[at + 1], s[at])
+    u32::from_le_bytes([s[at], s[at + 1], s[at + 2], s[at + 3]])
 }
 
 // The bytes of its nonce, of which it has room for 64.
-pub(crate) fn size_at(s: &[u8], i: usize) -> usize
-    requires { (length s.now ≡ 4424) × (i < 64) }
+#[tactic(auto, unfolding(crate::specs::State::size_at))]
+pub(crate) fn size_at(s: &State, i: usize) -> usize
+    requires { i < 64 }
     ensures { result ≡ size_at s.now i }
 {
     capped(s[SIZES + i])
 }
 
 // Another nonce for it.
-pub(crate) fn renew(s: &mut [u8], i: usize, nonce: &[u8])
-    requires { (length s.old ≡ 4424) × (i < 64) × (length nonce.now ≤ 64) }
+#[tactic(auto, unfolding(crate::specs::State::renewed))]
+pub(crate) fn renew(s: &mut State, i: usize, nonce: &[u8])
+    requires { (i < 64) × (length nonce.now ≤ 64) }
     ensures { s.new ≡ renewed i nonce.now s.old }
 {
+    let at = NONCES + 64 * i;
     s[SIZES + i] = nonce.len() as u8;
-    let _ = write_bytes(s, NONCES + 64 * i, nonce);
+    s[at..at + nonce.len()].copy_from_slice(nonce);
 }
 
 // Another session for it.
-pub(crate) fn put(s: &mut [u8], i: usize, handle: u32, nonce: &[u8])
-    requires { (length s.old ≡ 4424) × (i < 64) × (length nonce.now ≤ 64) }
+pub(crate) fn put(s: &mut State, i: usize, handle: u32, nonce: &[u8])
+    requires { (i < 64) × (length nonce.now ≤ 64) }
     ensures { s.new ≡ put i handle nonce.now s.old }
 {
     let at = HANDLES + 4 * i;
-    s[at] = (handle % 256) as u8;
-    s[at + 1] = (handle / 256 % 256) as u8;
-    s[at + 2] = (handle / 65536 % 256) as u8;
-    s[at + 3] = (handle / 16777216) as u8;
+    s[at..at + 4].copy_from_slice(&handle.to_le_bytes());
     renew(s, i, nonce);
 }
 
 // The session of one place at another.
-pub(crate) fn shift(s: &mut [u8], from: usize, to: usize)
-    requires { (length s.old ≡ 4424) × (from < 64) × (to < 64) }
+pub(crate) fn shift(s: &mut State, from: usize, to: usize)
+    requires { (from < 64) × (to < 64) }
     ensures bytes { s.new ≡ shifted from to s.old }
     ensures fits { handle_at s.old from < 4294967296 }
 {
     let size = size_at(s, from);
     let handle = handle_at(s, from);
     let start = NONCES + 64 * from;
-    let end = start + size;
     let mut nonce = [0; 64];
-    let _ = write_bytes(&mut nonce, 0, &s[start..end]);
+    nonce.copy_from_slice(&s[start..start + 64]);
     put(s, to, handle, &nonce[..size]);
 }
 
 // ---- the place of a handle
 
-// Whether a place of a group has the handle.
-fn has(s: &[u8], from: usize, handle: u32) -> bool
-    requires { (length s.now ≡ 4424) × (from + 8 ≤ 64) }
+// Whether a place of a group has the handle: all are looked at, so that they are compared at once.
+fn has(s: &State, from: usize, handle: u32) -> bool
+    requires { from + 8 ≤ 64 }
     ensures { result ≡ false → (k : ℕ) → k ≤ 8 → place_below s.now handle (from + k) ≡ place_below s.now handle from }
 {
     let mut any = false;
-    let mut i = 0;
-    while i < GROUP {
+    for i in 0..GROUP {
         if handle_at(s, from + i) == handle {
             any = true;
         }
-        i += 1;
     }
     any
 }
 
-// The last place that has the handle, counted from 1, of those from one on up to another; 0 where none has it.
-fn within(s: &[u8], from: usize, to: usize, handle: u32) -> usize
-    requires { (length s.now ≡ 4424) × (from ≤ to) × (to ≤ 64) }
-    ensures { place_below s.now handle to ≡ cond (eqb result 0) (place_below s.now handle from) result }
+// The last place that has the handle, of those from one on up to another.
+fn within(s: &State, from: usize, to: usize, handle: u32) -> Option<usize>
+    requires { (from ≤ to) × (to ≤ 64) }
+    ensures { place_below s.now handle to ≡ counted_or (place_below s.now handle from) result }
 {
-    let mut i = to;
-    while from < i {
-        i -= 1;
+    for i in (from..to).rev() {
         if handle_at(s, i) == handle {
-            return i + 1;
+            return Some(i);
         }
     }
-    0
+    None
 }
 
 // The same of all open places: a group is looked at one by one only where it has the handle.
-pub(crate) fn place(s: &[u8], handle: u32) -> usize
-    requires { length s.now ≡ 4424 }
-    ensures { result ≡ place_of s.now handle }
+pub(crate) fn place(s: &State, handle: u32) -> Option<usize>
+    ensures { counted result ≡ place_of s.now handle }
 {
     let mut to = count(s);
     while 0 < to {
         let from = (to - 1) / GROUP * GROUP;
         if has(s, from, handle) {
-            let at = within(s, from, to, handle);
-            if 0 < at {
-                return at;
+            if let Some(at) = within(s, from, to, handle) {
+                return Some(at);
             }
         }
         to = from;
     }
-    0
+    None
 }

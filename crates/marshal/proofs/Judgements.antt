@@ -5,15 +5,17 @@ use mathlib.Core.Bool.{Bool, true, false, false≢true, cond}
 use mathlib.Core.List.{List, [], ◌∷◌}
 use Prim.Native.Nat.{ℕ, zero, suc, ◌+◌, ◌-◌, ◌*◌, ◌≤◌, ◌<◌}
 use native.Mathlib.Omega.{arith}
-use borrow.Author.Tests.{le-leb, lt-leb, leb-false}
+use borrow.Author.Tests.{le-leb, lt-leb, leb-true, leb-false}
 use lib.Dec.{eqb, leb}
 use lib.ListN.{length, take}
+use Rattle.std.specs.Prelude.{min}
+use Rattle.std.proofs.Math.Nat.{min-eq_left, min-eq_right, min-le_left}
 use Rattle.base.specs.declared.error.TpmError.{TpmError}
 use Rattle.base.specs.declared.error.WriteError.{WriteError}
 use Rattle.base.specs.declared.error.WriteError.TheVariants.{Common}
 use Rattle.base.specs.Error.{numbered, writer_numbered}
 use Rattle.base.specs.Said.{Why, no_area, Said, gives, refuses, needs, then, given}
-use Rattle.base.proofs.Checks.{passes, fails, goes_on, stops, then_gives, gives_injective, refuses_injective, gives≢refuses}
+use Rattle.base.proofs.Checks.{passes, fails, goes_on, stops}
 use Rattle.frame.specs.declared.session.Entries.{Entries}
 use Rattle.frame.specs.declared.session.Field.{Field}
 use Rattle.frame.specs.declared.session.Session.{Session}
@@ -21,8 +23,8 @@ use Rattle.frame.specs.Answer.{handle_width}
 use Rattle.frame.specs.Header.{sessions}
 use Rattle.frame.specs.Parts.{entries_of}
 use Rattle.marshal.specs.Handed.{Handed}
-use Rattle.marshal.specs.Looked.{why_not}
-use Rattle.marshal.specs.Write.{capped, field_there, session_there, sessions_there, entry_length, entries_length, entries_said, total_size, fitted, judged}
+use Rattle.marshal.specs.Looked.{handles_there, sized, why_not}
+use Rattle.marshal.specs.Write.{capped, field_there, session_there, sessions_there, entry_length, entries_length, total_size, fitted, judged}
 
 pub handle_width_lem : (b : Bool) → handle_width b ≤ 4
 handle_width_lem true = omega arith
@@ -95,14 +97,6 @@ module _ (limit len : ℕ) where
       by (gives u) = refl
       by (refuses why) = refl
 
-  -- how many bytes their entries have, where all were found
-  pub entries_found : (width : ℕ) (es : List Session) {said : Said (Unit {0})} {n : ℕ} → said ≡ sessions_there limit len es → n ≡ entries_length width es
-      → then said (λ there. gives n) ≡ entries_said limit width len es
-  entries_found width es found is i = then (found i) (λ there. gives (is i))
-
-  pub entries_are : (width : ℕ) (es : List Session) {n : ℕ} → gives n ≡ entries_said limit width len es → n ≡ entries_length width es
-  entries_are width es said = sym (gives_injective (then_gives (sessions_there limit len es) _ (sym said)).2)
-
 -- ---- how long they can get: a length is of 16 bits
 
 abbrev pub SizesFit : Session → Type 0
@@ -125,103 +119,62 @@ entries_small b es first second third =
     let three = entry_small b es.third third in
     omega arith
 
--- what was found of them, as a bound
-pub entries_bound : (limit : ℕ) (b : Bool) (len : ℕ) (es : Entries) → SizesFit es.first → SizesFit es.second → SizesFit es.third
-    → {said : Said ℕ} → said ≡ entries_said limit (handle_width b) len (entries_of es) → (n : ℕ) → said ≡ gives n → n ≤ 393237
-entries_bound limit b len es first second third found n e =
-    let is = entries_are limit len (handle_width b) (entries_of es) (sym e ∙ found) in
-    let few = entries_small b es first second third in
-    omega arith
-
-pub size_small : (tag : ℕ) → cond (eqb tag sessions) 4 0 ≤ 4
-size_small tag = by (eqb tag sessions)
-  where
-    by : (b : Bool) → cond b 4 0 ≤ 4
-    by true = omega arith
-    by false = omega arith
-
 -- ---- the total
 
-pub small_capped : (n : ℕ) → capped n ≤ 4294967295 → capped n ≡ n
-small_capped n h = by (leb n 18446744073709551615) refl h
+-- a sum that stops at the largest number
+pub sum_capped : (n : ℕ) → min n 18446744073709551615 ≡ capped n
+sum_capped n = by (leb n 18446744073709551615) refl
   where
-    by : (b : Bool) → leb n 18446744073709551615 ≡ b → cond b n 18446744073709551615 ≤ 4294967295 → cond b n 18446744073709551615 ≡ n
-    by true e h = refl
-    by false e h = absurd (omega arith)
+    by : (b : Bool) → leb n 18446744073709551615 ≡ b → min n 18446744073709551615 ≡ cond b n 18446744073709551615
+    by true e = min-eq_left (leb-true n 18446744073709551615 e)
+    by false e = let more = leb-false n 18446744073709551615 e in min-eq_right (omega arith)
 
-pub large_capped : (n : ℕ) → 4294967295 < capped n → 4294967295 < n
-large_capped n h = by (leb n 18446744073709551615) refl h
-  where
-    by : (b : Bool) → leb n 18446744073709551615 ≡ b → 4294967295 < cond b n 18446744073709551615 → 4294967295 < n
-    by true e h = h
-    by false e h = let more = leb-false n 18446744073709551615 e in omega arith
+module _ (n room : ℕ) {total : ℕ} (sum : total ≡ min n 18446744073709551615) where
+  pub too_large : 4294967295 < total → refuses (no_area (7 ∷ 0 ∷ total ∷ [])) ≡ sized n room
+  too_large large =
+      let most = min-le_left n 18446744073709551615 in
+      ap (λ (k : ℕ). refuses (no_area (7 ∷ 0 ∷ k ∷ []))) (sum ∙ sum_capped n)
+      ∙ fails (leb n 4294967295) _ (fitted n room) (lt-leb n 4294967295 (omega arith))
 
--- the sum that was made, of the parts of what was handed over
-pub sum_of : (tag : ℕ) (h : Handed) (handles entries : ℕ) {size parameters total : ℕ}
-    → total ≡ capped (10 + handles + size + entries + parameters) → size ≡ cond (eqb tag sessions) 4 0 → length h.parameters ≡ parameters
-    → total ≡ capped (10 + handles + cond (eqb tag sessions) 4 0 + entries + length h.parameters)
-sum_of tag h handles entries {size} {parameters} {total} sum is ps = rw (is, ← ps) at sum
+  pub total_fits : total ≤ 4294967295 → fitted total room ≡ sized n room
+  total_fits small =
+      let whole : total ≡ n = by (leb n 18446744073709551615) refl in
+      ap (λ (k : ℕ). fitted k room) whole ∙ passes (leb n 4294967295) _ (fitted n room) (le-leb n 4294967295 (omega arith))
+    where
+      by : (b : Bool) → leb n 18446744073709551615 ≡ b → total ≡ n
+      by true e = sum ∙ min-eq_left (leb-true n 18446744073709551615 e)
+      by false e =
+          let more = leb-false n 18446744073709551615 e in
+          let most : total ≡ 18446744073709551615 = sum ∙ min-eq_right (omega arith) in
+          absurd (omega arith)
+
+-- ---- what is judged from the handles on, step by step
 
 module _ (limit width tag handles : ℕ) (h : Handed) (room : ℕ) where
-  pub few_handles : length h.handles < 4 * handles → refuses (no_area (1 ∷ 0 ∷ (4 * handles) ∷ length h.handles ∷ [])) ≡ judged limit width tag handles h room
+  abbrev behind_handles : Said ℕ
+  behind_handles = then (sessions_there limit (length h.lent) (entries_of h.sessions)) λ there. sized (total_size width tag h) room
+
+  from_handles : then (handles_there handles (length h.handles)) (λ there. behind_handles) ≡ judged limit width tag handles h room
   unfolding judged
-  few_handles short = fails (leb (4 * handles) (length h.handles)) _ _ (lt-leb (4 * handles) (length h.handles) short)
+  from_handles = by (leb (4 * handles) (length h.handles)) (leb (length h.handles) (4 * handles)) _ _ behind_handles
+    where
+      by : {A : Type 0} (a b : Bool) (v w : Why) (rest : Said A) → then (needs a v (needs b w (gives (tt {0})))) (λ there. rest) ≡ needs a v (needs b w rest)
+      by true true v w rest = refl
+      by true false v w rest = refl
+      by false b v w rest = refl
 
-  pub many_handles : 4 * handles < length h.handles
-      → refuses (no_area (2 ∷ (4 * handles) ∷ (length h.handles - 4 * handles) ∷ [])) ≡ judged limit width tag handles h room
-  unfolding judged
-  many_handles long =
-      fails (leb (length h.handles) (4 * handles)) _ _ (lt-leb (length h.handles) (4 * handles) long)
-      ∙ passes (leb (4 * handles) (length h.handles)) _ _ (le-leb (4 * handles) (length h.handles) (omega arith))
+  pub handles_missing : {why : Why} → refuses why ≡ handles_there handles (length h.handles) → refuses why ≡ judged limit width tag handles h room
+  handles_missing missing = stops (handles_there handles (length h.handles)) _ missing ∙ from_handles
 
-  module _ (count : length h.handles ≡ 4 * handles) where
-    -- what is judged behind the handles
-    abbrev behind : Said ℕ
-    behind =
-        then (sessions_there limit (length h.lent) (entries_of h.sessions)) λ there.
-        needs (leb (total_size width tag h) 4294967295) (no_area (7 ∷ 0 ∷ capped (total_size width tag h) ∷ []))
-        (fitted (total_size width tag h) room)
+  module _ (all : gives tt ≡ handles_there handles (length h.handles)) where
+    handles_found : behind_handles ≡ judged limit width tag handles h room
+    handles_found = goes_on (handles_there handles (length h.handles)) _ all ∙ from_handles
 
-    handles_pass : behind ≡ judged limit width tag handles h room
-    unfolding judged
-    handles_pass =
-        passes (leb (length h.handles) (4 * handles)) _ behind (le-leb (length h.handles) (4 * handles) (omega arith))
-        ∙ passes (leb (4 * handles) (length h.handles)) _ _ (le-leb (4 * handles) (length h.handles) (omega arith))
+    pub field_missing : {why : Why} → refuses why ≡ sessions_there limit (length h.lent) (entries_of h.sessions) → refuses why ≡ judged limit width tag handles h room
+    field_missing missing = stops (sessions_there limit (length h.lent) (entries_of h.sessions)) _ missing ∙ handles_found
 
-    pub field_missing : {why : Why} → refuses why ≡ entries_said limit width (length h.lent) (entries_of h.sessions) → refuses why ≡ judged limit width tag handles h room
-    field_missing said =
-        stops (sessions_there limit (length h.lent) (entries_of h.sessions)) _ (by (sessions_there limit (length h.lent) (entries_of h.sessions)) said) ∙ handles_pass
-      where
-        by : {why : Why} (s : Said (Unit {0})) → refuses why ≡ then s (λ there. gives (entries_length width (entries_of h.sessions))) → refuses why ≡ s
-        by (gives u) r = absurd (gives≢refuses (sym r))
-        by (refuses other) r = ap refuses (refuses_injective r)
-
-    module _ {entries total : ℕ} (said : gives entries ≡ entries_said limit width (length h.lent) (entries_of h.sessions))
-        (sum : total ≡ capped (10 + 4 * handles + cond (eqb tag sessions) 4 0 + entries + length h.parameters)) where
-      total_capped : total ≡ capped (total_size width tag h)
-      total_capped =
-          let there = then_gives (sessions_there limit (length h.lent) (entries_of h.sessions)) _ (sym said) in
-          let is : entries_length width (entries_of h.sessions) ≡ entries = gives_injective there.2 in
-          let same : 10 + 4 * handles + cond (eqb tag sessions) 4 0 + entries + length h.parameters ≡ total_size width tag h = rw (count, is) refl in
-          sum ∙ ap capped same
-
-      all_there : needs (leb (total_size width tag h) 4294967295) (no_area (7 ∷ 0 ∷ capped (total_size width tag h) ∷ [])) (fitted (total_size width tag h) room)
-          ≡ judged limit width tag handles h room
-      all_there =
-          goes_on (sessions_there limit (length h.lent) (entries_of h.sessions)) _ (sym (then_gives (sessions_there limit (length h.lent) (entries_of h.sessions)) _ (sym said)).1)
-          ∙ handles_pass
-
-      pub too_large : 4294967295 < total → refuses (no_area (7 ∷ 0 ∷ total ∷ [])) ≡ judged limit width tag handles h room
-      too_large large =
-          ap (λ (n : ℕ). refuses (no_area (7 ∷ 0 ∷ n ∷ []))) total_capped
-          ∙ fails (leb (total_size width tag h) 4294967295) _ (fitted (total_size width tag h) room)
-          (lt-leb (total_size width tag h) 4294967295 (large_capped (total_size width tag h) (rw (← total_capped) large)))
-          ∙ all_there
-
-      pub total_fits : total ≤ 4294967295 → fitted total room ≡ judged limit width tag handles h room
-      total_fits small =
-          let is : capped (total_size width tag h) ≡ total_size width tag h = small_capped (total_size width tag h) (rw (← total_capped) small) in
-          let whole : total ≡ total_size width tag h = total_capped ∙ is in
-          ap (λ (n : ℕ). fitted n room) whole
-          ∙ passes (leb (total_size width tag h) 4294967295) _ (fitted (total_size width tag h) room) (le-leb (total_size width tag h) 4294967295 (rw (← whole) small))
-          ∙ all_there
+    pub all_there : gives tt ≡ sessions_there limit (length h.lent) (entries_of h.sessions) → {entries : ℕ} → entries ≡ entries_length width (entries_of h.sessions)
+        → sized (10 + length h.handles + cond (eqb tag sessions) 4 0 + entries + length h.parameters) room ≡ judged limit width tag handles h room
+    all_there there is =
+        ap (λ (n : ℕ). sized (10 + length h.handles + cond (eqb tag sessions) 4 0 + n + length h.parameters) room) is
+        ∙ goes_on (sessions_there limit (length h.lent) (entries_of h.sessions)) _ there ∙ handles_found

@@ -8,7 +8,7 @@ ghost use Rattle.base.specs.Field.{laid};
 ghost use Rattle.marshal.specs.Write.{Ready, counted, room_after, write_command};
 
 use crate::put::{put, put_entries, put_header, put_u32};
-use crate::total::{entries_length, found, judge, look, tag_for, too_many};
+use crate::total::{entries_length, found, judge_handles, judge_total, look, tag_for, too_many};
 use base::code::{TpmCc, TpmSt};
 use base::error::{Area, WriteError};
 use frame::rules::{Rules, longest};
@@ -35,13 +35,13 @@ fn judge_command(
         return Err(too_many(sessions.count).into());
     }
     let row = find(rules.revision, cc)?;
+    judge_handles(row.handles, handles.len())?;
     let limit = longest(rules);
-    let looked = look(limit, sessions, lent.len());
-    judge(
+    found(limit, lent.len(), look(limit, sessions, lent.len()))?;
+    judge_total(
         tag.0,
-        row.handles,
         handles.len(),
-        found(limit, lent.len(), looked, entries_length(true, sessions)),
+        entries_length(true, sessions),
         parameters.len(),
         room,
     )

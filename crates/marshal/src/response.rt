@@ -12,7 +12,9 @@ ghost use Rattle.marshal.specs.Write.{Ready, counted, room_after, write_bad_tag,
 
 use crate::mode::{ResponseRules, asks_bad_tag, rules_for};
 use crate::put::{put, put_entries, put_header, put_u32};
-use crate::total::{entries_length, fits, found, judge, look, tag_for, too_many};
+use crate::total::{
+    entries_length, fits, found, judge_handles, judge_total, look, tag_for, too_many,
+};
 use base::code::{TpmCc, TpmRc, TpmSt};
 use base::error::{Area, WriteError};
 use frame::header::{BAD_TAG, HEADER_SIZE, PLAIN, RSP_COMMAND, SESSIONS};
@@ -90,13 +92,13 @@ fn judge_response(
     if rc.0 != 0 {
         return judge_error(rc, sessions.count, room);
     }
+    judge_handles(row.responses, handles.len())?;
     let limit = longest(rules_for(rules));
-    let looked = look(limit, sessions, lent.len());
-    judge(
+    found(limit, lent.len(), look(limit, sessions, lent.len()))?;
+    judge_total(
         tag_for(sessions.count),
-        row.responses,
         handles.len(),
-        found(limit, lent.len(), looked, entries_length(false, sessions)),
+        entries_length(false, sessions),
         parameters.len(),
         room,
     )

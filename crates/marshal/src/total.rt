@@ -7,7 +7,7 @@ ghost use Rattle.frame.specs.Answer.{handle_width};
 ghost use Rattle.frame.specs.Header.{sessions};
 ghost use Rattle.frame.specs.Parts.{entries_of};
 ghost use Rattle.marshal.specs.Handed.{Handed, tag_for};
-ghost use Rattle.marshal.specs.Looked.{said_looked, why_not};
+ghost use Rattle.marshal.specs.Looked.{handles_there, said_looked, sized, why_not};
 ghost use Rattle.marshal.specs.Write.{capped, entries_length, entries_said, entry_length, field_there, fitted, judged, session_there, sessions_there};
 
 use base::error::{Area, TpmError, WriteError};
@@ -15,20 +15,8 @@ use base::field::left;
 use frame::header::{HEADER_SIZE, PLAIN, SESSIONS};
 use frame::session::{Entries, Field, MAX_SESSIONS, Session};
 
-// The largest sum, and the largest that a size field holds.
-const LARGEST: usize = 18446744073709551615;
-
+// The largest total that a size field holds.
 const LARGEST_SIZE: usize = 4294967295;
-
-// The sum, or the largest number where it does not fit.
-fn capped_sum(a: usize, b: usize) -> usize
-    ensures { result ≡ capped (a + b) }
-{
-    if LARGEST - a < b {
-        return LARGEST;
-    }
-    a + b
-}
 
 // The tag that goes with so many sessions.
 pub(crate) fn tag_for(count: usize) -> u16
@@ -163,19 +151,34 @@ pub(crate) fn entries_length(command: bool, es: Entries) -> usize
         + entry_length(command, es.third)
 }
 
-// The bytes of the entries, where all that they name was found.
-pub(crate) fn found(
-    limit: usize,
-    lent: usize,
-    looked: Result<(), Missing>,
-    length: usize,
-) -> Result<usize, TpmError>
-    ensures { said result ≡ then (said_looked limit lent looked) (λ there. gives length) }
+// What was looked for, as it is refused: a search carries the two numbers alone.
+pub(crate) fn found(limit: usize, lent: usize, looked: Result<(), Missing>) -> Result<(), TpmError>
+    ensures { said result ≡ said_looked limit lent looked }
 {
-    match looked {
-        Ok(()) => Ok(length),
-        Err(field) => Err(why_not(limit, lent, field)),
+    looked.map_err(|field| why_not(limit, lent, field))
+}
+
+// Whether there are the handles of a row, four bytes each, and no more.
+pub(crate) fn judge_handles(count: u8, handles: usize) -> Result<(), TpmError>
+    ensures { said result ≡ handles_there count handles }
+{
+    let needed = 4 * (count as usize);
+    if handles < needed {
+        return Err(TpmError::UnexpectedEnd {
+            area: Area::None,
+            offset: 0,
+            needed,
+            available: handles,
+        });
     }
+    if needed < handles {
+        return Err(TpmError::TrailingData {
+            area: Area::None,
+            offset: needed,
+            actual: handles - needed,
+        });
+    }
+    Ok(())
 }
 
 // The total, where there is room for it.
@@ -194,39 +197,20 @@ pub(crate) fn fits(total: usize, room: usize) -> Result<usize, WriteError>
     Ok(total)
 }
 
-// What both writers judge, from the handles on: so many handle bytes, entries as they were found, so many parameter bytes. Three entries
-// have at most 393,237 bytes: each a handle, two lengths, an attribute byte and twice 65,535.
-pub(crate) fn judge(
+// The total of a frame with so many bytes of handles, entries and parameters. Only the parameters can be too many for a sum: a row has at
+// most 255 handles, and three entries have at most 393,237 bytes, each a handle, two lengths, an attribute byte and twice 65,535.
+pub(crate) fn judge_total(
     tag: u16,
-    count: u8,
     handles: usize,
-    entries: Result<usize, TpmError>,
+    entries: usize,
     parameters: usize,
     room: usize,
 ) -> Result<usize, WriteError>
-    requires { (n : ℕ) → said entries ≡ gives n → n ≤ 393237 }
-    ensures { (limit width : ℕ) (h : Handed) → length h.handles ≡ handles → said entries ≡ entries_said limit width (length h.lent) (entries_of h.sessions) → length h.parameters ≡ parameters → said_total result ≡ judged limit width tag count h room }
+    requires few_handles { handles ≤ 1020 }
+    requires few_entries { entries ≤ 393237 }
+    ensures { said_total result ≡ sized (10 + handles + cond (eqb tag sessions) 4 0 + entries + parameters) room }
 {
-    let needed = 4 * (count as usize);
-    if handles < needed {
-        return Err(TpmError::UnexpectedEnd {
-            area: Area::None,
-            offset: 0,
-            needed,
-            available: handles,
-        }
-        .into());
-    }
-    if needed < handles {
-        return Err(TpmError::TrailingData {
-            area: Area::None,
-            offset: needed,
-            actual: handles - needed,
-        }
-        .into());
-    }
-    let taken = entries?;
-    let total = capped_sum(HEADER_SIZE + needed + size_field(tag) + taken, parameters);
+    let total = (HEADER_SIZE + handles + size_field(tag) + entries).saturating_add(parameters);
     if LARGEST_SIZE < total {
         return Err(WriteError::IntegerTooLarge {
             offset: 0,

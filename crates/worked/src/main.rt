@@ -11,16 +11,17 @@
 // must write, crates/worked/stdout, is document 01's, 02's and the Rust's word.
 #![tactic(auto)]
 
-mod calls;
+mod answer;
+mod buffers;
+mod call;
+mod fields;
 mod frames;
 mod lines;
 mod nonces;
+mod parts;
 mod records;
 mod rules;
-mod show;
 mod text;
-mod told;
-mod views;
 
 use std::io;
 

@@ -15,7 +15,6 @@ settle-requires c =
     let a = c.args in
     let first = c.in_ok-asked.ensures in
     let second = c.in_ok-told.ensures in (
-      search rules,
       command_few a.revision a.command.now a.response.now first,
       response_few a.revision a.command.now a.response.now first second,
       response_kept a.revision a.command.now a.response.now first second,

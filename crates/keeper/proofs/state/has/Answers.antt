@@ -1,4 +1,4 @@
--- `keeper::state::has` meets its contract. The invariant: none of the places passed has the handle, unless one was seen. The measure is what is left.
+-- `keeper::state::has` meets its contract. The invariant: none of the places passed has the handle, unless one was seen.
 -- Assumes nothing.
 use mathlib.Core.Path.{◌≡◌, sym, ◌∙◌, ap}
 use mathlib.Core.Bool.{false≢true}

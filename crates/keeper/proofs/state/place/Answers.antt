@@ -3,7 +3,6 @@
 use mathlib.Core.Path.{◌≡◌, sym, ◌∙◌, ap}
 use Prim.Native.Nat.{◌-◌, ◌*◌, ◌/◌, ◌≤◌}
 use native.Mathlib.Omega.{arith}
-use borrow.Author.Tests.{ne_eqb}
 use Rattle.keeper.specs.State.{place_below, place_of, count_of}
 use Rattle.keeper.proofs.Places.{count_most}
 use Rattle.keeper.proofs.Found.{group_passed, nothing_below}
@@ -17,18 +16,11 @@ loop-to-init c =
     let is = c.count-to.ensures in
     (omega arith, ap (place_below a.s.now a.handle) (sym is))
 
-pub returns-then-at-gt0 : goal.returns-then-at-gt0
-returns-then-at-gt0 c =
-    let a = c.args in
-    let l = c.loop-to in
-    sym (l.invariant.1 ∙ c.within-at.ensures ∙ simp (ne_eqb c.within-at.result 0 (λ q. omega arith)))
+pub returns-in-Some : goal.returns-in-Some
+returns-in-Some c = sym (c.loop-to.invariant.1 ∙ c.in-Some.ensures)
 
-pub loop-to-preserved-else-at-gt0 : goal.loop-to-preserved-else-at-gt0
-loop-to-preserved-else-at-gt0 c =
-    let a = c.args in
-    let l = c.loop-to in
-    let none : c.within-at.result ≡ 0 = omega arith in
-    (omega arith, l.invariant.1 ∙ c.within-at.ensures ∙ simp none)
+pub loop-to-preserved-in_default : goal.loop-to-preserved-in_default
+loop-to-preserved-in_default c = (omega arith, c.loop-to.invariant.1 ∙ c.in_default.ensures)
 
 pub loop-to-preserved : goal.loop-to-preserved
 loop-to-preserved c =

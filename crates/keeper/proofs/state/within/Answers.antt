@@ -1,9 +1,7 @@
--- `keeper::state::within` meets its contract. The invariant: the last place below the end is the last one below i. The measure is what is left.
+-- `keeper::state::within` meets its contract. The invariant: the last place below the end is the last one below i.
 -- Assumes nothing.
 use mathlib.Core.Path.{◌≡◌, refl, sym, ◌∙◌, ap}
-use Prim.Native.Nat.{◌+◌, ◌-◌}
 use native.Mathlib.Omega.{arith}
-use borrow.Author.Tests.{ne_eqb}
 use Rattle.keeper.specs.State.{place_below}
 use Rattle.keeper.proofs.Found.{place_hit, place_miss}
 use Rattle.keeper.proofs.state.within.Goals as goal
@@ -15,8 +13,7 @@ pub returns-then-handle_at-handle : goal.returns-then-handle_at-handle
 returns-then-handle_at-handle c =
     let a = c.args in
     let l = c.loop-i in
-    simp (ne_eqb (l.i - 1 + 1) 0 (λ q. omega arith))
-    (l.invariant.2 ∙ place_hit a.s.now a.handle l.i (omega arith) (sym c.handle_at.ensures ∙ c.if-handle_at-handle.true))
+    l.invariant.2 ∙ place_hit a.s.now a.handle l.i (omega arith) (sym c.handle_at.ensures ∙ c.if-handle_at-handle.true)
 
 pub loop-i-preserved : goal.loop-i-preserved
 loop-i-preserved c =
