@@ -107,7 +107,8 @@ fn look_at_both(limit: usize, e: Session, lent: usize) -> Result<(), Missing>
     look_at(limit, e.hmac, lent)
 }
 
-// Looks at the sessions in their order, for nonces and HMACs of at most so many bytes, in so many lent bytes.
+// Looks at the sessions in their order, for nonces and HMACs of at most so many bytes, in so many lent bytes. Inlined, or the record is copied.
+#[inline(always)]
 pub(crate) fn look(limit: usize, es: Entries, lent: usize) -> Result<(), Missing>
     ensures { said_looked limit lent result ≡ sessions_there limit lent (entries_of es) }
 {
@@ -133,7 +134,8 @@ fn entry_length(command: bool, e: Session) -> usize
     if command { 4 + signed } else { signed }
 }
 
-// The bytes that the entries take.
+// The bytes that the entries take. Inlined, as `look` is.
+#[inline(always)]
 pub(crate) fn entries_length(command: bool, es: Entries) -> usize
     ensures { result ≡ entries_length (handle_width command) (entries_of es) }
 {
