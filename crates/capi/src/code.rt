@@ -1,7 +1,7 @@
 // The response code, of crate rc. A code goes out as the number of its kind, its base, the number of its part and its value.
 ghost use Rattle.std.specs.Prelude.{◌≡◌};
 ghost use Rattle.rc.specs.declared.code.Code.{Code};
-ghost use Rattle.rc.specs.Code.{of_parts, read_code};
+ghost use Rattle.rc.specs.Code.{read_code};
 ghost use Rattle.capi.specs.Code.{code_of, kind_numbered, parts_and_value, value};
 ghost use Rattle.capi.specs.Out.{Reports};
 ghost use Rattle.capi.specs.Rules.{named};

@@ -12,7 +12,7 @@ ghost use Rattle.capi.specs.Rules.{under};
 ghost use Rattle.capi.specs.Out.{Reports, ends, none, one};
 
 use crate::out::{Numbers, Refused, report, with_tail};
-use crate::rules::{report_by, rules_named};
+use crate::rules::{by_rules, rules_named};
 use base::code::{TpmCc, TpmSt};
 use base::part::Span;
 use frame::command::Command;
@@ -22,44 +22,28 @@ use frame::session::Entries;
 pub extern "C" fn skein_command_cast(rules: u32, s: &[u8], out: &mut Numbers) -> u32
     ensures { Reports ends (under rules λ book. whole s.now (cast_command book s.now)) out.old out.new result }
 {
-    report_by(
-        rules_named(rules),
-        |by| frame::command::cast_range(by, s),
-        out,
-    )
+    by_rules(rules, out, |by| frame::command::cast_range(by, s))
 }
 
 #[unsafe(no_mangle)]
 pub extern "C" fn skein_command_handles(rules: u32, s: &[u8], out: &mut Numbers) -> u32
     ensures { Reports ends (under rules λ book. handles_range book s.now) out.old out.new result }
 {
-    report_by(
-        rules_named(rules),
-        |by| frame::command::handles_range(by, s),
-        out,
-    )
+    by_rules(rules, out, |by| frame::command::handles_range(by, s))
 }
 
 #[unsafe(no_mangle)]
 pub extern "C" fn skein_command_auth_area(rules: u32, s: &[u8], out: &mut Numbers) -> u32
     ensures { Reports ends (under rules λ book. auth_range book s.now) out.old out.new result }
 {
-    report_by(
-        rules_named(rules),
-        |by| frame::command::auth_area_range(by, s),
-        out,
-    )
+    by_rules(rules, out, |by| frame::command::auth_area_range(by, s))
 }
 
 #[unsafe(no_mangle)]
 pub extern "C" fn skein_command_parameters(rules: u32, s: &[u8], out: &mut Numbers) -> u32
     ensures { Reports ends (under rules λ book. parameters_range book s.now) out.old out.new result }
 {
-    report_by(
-        rules_named(rules),
-        |by| frame::command::parameters_range(by, s),
-        out,
-    )
+    by_rules(rules, out, |by| frame::command::parameters_range(by, s))
 }
 
 // Where the command at the start stands, and where what is behind it.
@@ -77,18 +61,14 @@ pub extern "C" fn skein_command_cast_prefix(rules: u32, s: &[u8], out: &mut Numb
 pub extern "C" fn skein_command_validate(rules: u32, s: &[u8], out: &mut Numbers) -> u32
     ensures { Reports none (under rules λ book. done (read_command book s.now)) out.old out.new result }
 {
-    report_by(
-        rules_named(rules),
-        |by| frame::command::validate(by, s),
-        out,
-    )
+    by_rules(rules, out, |by| frame::command::validate(by, s))
 }
 
 #[unsafe(no_mangle)]
 pub extern "C" fn skein_command_cc(rules: u32, s: &[u8], out: &mut Numbers) -> u32
     ensures { Reports one (under rules λ book. read_cc book s.now) out.old out.new result }
 {
-    report_by(rules_named(rules), |by| frame::command::cc(by, s), out)
+    by_rules(rules, out, |by| frame::command::cc(by, s))
 }
 
 #[unsafe(no_mangle)]

@@ -9,8 +9,8 @@ ghost use Rattle.capi.specs.Frame.{handle_counts};
 ghost use Rattle.capi.specs.Out.{Reports, truth};
 ghost use Rattle.capi.specs.Rules.{at_table};
 
-use crate::out::{Answer, Numbers, give, report};
-use crate::rules::{report_by, revision_named};
+use crate::out::{Answer, Numbers, Refused, give, report};
+use crate::rules::revision_named;
 use base::code::{TpmCc, TpmSt};
 use table::row::Row;
 
@@ -32,21 +32,18 @@ impl Answer for Row {
 pub extern "C" fn skein_table_find(revision: u32, cc: u32, out: &mut Numbers) -> u32
     ensures { Reports handle_counts (at_table revision λ table. row_for (table_of table) cc) out.old out.new result }
 {
-    report_by(
-        revision_named(revision),
-        |table| table::dispatch::find(table, TpmCc(cc)),
-        out,
-    )
+    match revision_named(revision) {
+        Ok(table) => report(table::dispatch::find(table, TpmCc(cc)), out),
+        Err(unknown) => unknown.store(out),
+    }
 }
 
 #[unsafe(no_mangle)]
 pub extern "C" fn skein_table_known(revision: u32, cc: u32, out: &mut Numbers) -> u32
     ensures { Reports truth (at_table revision λ table. gives (is_in cc (codes_of table))) out.old out.new result }
 {
-    report(
-        revision_named(revision).map(|table| table::dispatch::cc_known(table, TpmCc(cc))),
-        out,
-    )
+    let known = revision_named(revision).map(|table| table::dispatch::cc_known(table, TpmCc(cc)));
+    report(known, out)
 }
 
 #[unsafe(no_mangle)]

@@ -1,4 +1,5 @@
-// The calls on a fixed buffer, over any capacity: its size is a number, and its room is lent.
+// The calls on a fixed buffer, over any capacity: its size is a number, and its room is lent. Those that have a whole buffer by value ask
+// that it fits in memory.
 ghost use Rattle.std.specs.Prelude.{◌≡◌, [], ◌∷◌, ◌+◌, ◌<◌};
 ghost use Rattle.base.specs.Said.{after, gives};
 ghost use Rattle.buffer.specs.Capacities.{most, of};
@@ -90,7 +91,6 @@ pub(crate) fn extend<const N: usize>(
     report(TpmBuffer::extend_lent(size, data, s), out)
 }
 
-// One byte more: the size goes out alone, as of `extend`.
 pub(crate) fn push<const N: usize>(
     byte: u8,
     size: u16,

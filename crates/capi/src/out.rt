@@ -1,7 +1,7 @@
 // How an answer goes out: one place for every call.
 ghost use Rattle.std.specs.Prelude.{◌≡◌, ℕ, Bool, List, [], ◌∷◌};
 ghost use Rattle.base.specs.Error.{numbered, writer_numbered};
-ghost use Rattle.base.specs.Answer.{Part, said_by};
+ghost use Rattle.base.specs.Answer.{Part, said_by, said_range};
 ghost use Rattle.base.specs.Said.{Why, gives, in_area, no_area, number_of};
 ghost use Rattle.capi.specs.Frame.{part_and_tail};
 ghost use Rattle.capi.specs.Out.{Reports, answer_over, ends, none, one, refusal_over, truth};
@@ -44,7 +44,7 @@ fn three(number: u32, area: Area, offset: usize, b: usize, c: usize, out: &mut N
     number
 }
 
-// A value that an answer can be: what it stands for, and the numbers that it goes out as, from the first place on.
+// A value that an answer can be: what it stands for, and the numbers by which that goes out.
 pub(crate) trait Answer {
     ghost Told: { Type 0 };
 
@@ -56,7 +56,7 @@ pub(crate) trait Answer {
         ensures { out.new ≡ answer_over (numbers (told self)) out.old };
 }
 
-// What a call may refuse with: its number comes back, its fields and its area go into the array.
+// What a call may refuse with: its number is returned, and its fields and its area go into the array.
 pub(crate) trait Refused {
     ghost why: { Self → Why };
 
@@ -65,7 +65,7 @@ pub(crate) trait Refused {
         ensures out_after { out.new ≡ refusal_over (why self) out.old };
 }
 
-// How every call ends: with a value, or with a value or a refusal.
+// How a call ends that refuses nothing, and how one that may refuse.
 pub(crate) fn give<T: Answer>(x: T, out: &mut Numbers) -> u32
     ensures { Reports T.numbers (gives (T.told x)) out.old out.new result }
 {
@@ -92,6 +92,7 @@ impl Answer for () {
     fn store(self, _out: &mut Numbers) {}
 }
 
+// A number goes out as itself, and a tag and the two codes by theirs. Each type has an impl of its own: a macro may write none.
 impl Answer for u16 {
     ghost Told = { ℕ };
 
@@ -128,19 +129,6 @@ impl Answer for usize {
     }
 }
 
-impl Answer for bool {
-    ghost Told = { Bool };
-
-    ghost told = { λ b. b };
-
-    ghost numbers = { truth };
-
-    fn store(self, out: &mut Numbers) {
-        out[0] = self as u64;
-    }
-}
-
-// A tag and the two codes go out by their numbers.
 impl Answer for TpmSt {
     ghost Told = { ℕ };
 
@@ -174,6 +162,18 @@ impl Answer for TpmRc {
 
     fn store(self, out: &mut Numbers) {
         out[0] = self.0 as u64;
+    }
+}
+
+impl Answer for bool {
+    ghost Told = { Bool };
+
+    ghost told = { λ b. b };
+
+    ghost numbers = { truth };
+
+    fn store(self, out: &mut Numbers) {
+        out[0] = self as u64;
     }
 }
 
@@ -256,8 +256,8 @@ impl Refused for WriteError {
 }
 
 // A part from the start of so many bytes, and what is behind it.
-pub(crate) fn with_tail<E: Refused>(a: Result<Span, E>, all: usize, out: &mut Numbers) -> u32
-    ensures { Reports (part_and_tail all) (said_by (λ p. record { from = p.from; to = p.to }) E.why a) out.old out.new result }
+pub(crate) fn with_tail(a: Result<Span, TpmError>, all: usize, out: &mut Numbers) -> u32
+    ensures { Reports (part_and_tail all) (said_range a) out.old out.new result }
 {
     match a {
         Ok(Span { from, to }) => {

@@ -12,7 +12,7 @@ ghost use Rattle.capi.specs.Rules.{under, under_mode};
 ghost use Rattle.capi.specs.Out.{Reports, ends, none, one};
 
 use crate::out::{Numbers, Refused, report, with_tail};
-use crate::rules::{report_by, response_rules_named, rules_named};
+use crate::rules::{by_rules, response_rules_named, rules_named};
 use base::code::{TpmCc, TpmRc, TpmSt};
 use base::part::Span;
 use frame::response::Response;
@@ -22,11 +22,7 @@ use frame::session::Entries;
 pub extern "C" fn skein_response_cast(rules: u32, s: &[u8], out: &mut Numbers) -> u32
     ensures { Reports ends (under rules λ book. whole s.now (cast_response book s.now)) out.old out.new result }
 {
-    report_by(
-        rules_named(rules),
-        |by| frame::response::cast_range(by, s),
-        out,
-    )
+    by_rules(rules, out, |by| frame::response::cast_range(by, s))
 }
 
 // Where the response at the start stands, and where what is behind it.
@@ -44,18 +40,14 @@ pub extern "C" fn skein_response_cast_prefix(rules: u32, s: &[u8], out: &mut Num
 pub extern "C" fn skein_response_validate(rules: u32, cc: u32, s: &[u8], out: &mut Numbers) -> u32
     ensures { Reports none (under rules λ book. done (read_response book cc s.now)) out.old out.new result }
 {
-    report_by(
-        rules_named(rules),
-        |by| frame::response::validate(by, TpmCc(cc), s),
-        out,
-    )
+    by_rules(rules, out, |by| frame::response::validate(by, TpmCc(cc), s))
 }
 
 #[unsafe(no_mangle)]
 pub extern "C" fn skein_response_rc(rules: u32, s: &[u8], out: &mut Numbers) -> u32
     ensures { Reports one (under rules λ book. read_rc book s.now) out.old out.new result }
 {
-    report_by(rules_named(rules), |by| frame::response::rc(by, s), out)
+    by_rules(rules, out, |by| frame::response::rc(by, s))
 }
 
 #[unsafe(no_mangle)]

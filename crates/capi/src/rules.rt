@@ -3,6 +3,7 @@
 ghost use Rattle.std.specs.Prelude.{◌≡◌, Result};
 ghost use Rattle.base.specs.Answer.{said_by};
 ghost use Rattle.base.specs.Said.{Said, then};
+ghost use Rattle.frame.specs.declared.rules.Rules.{Rules};
 ghost use Rattle.capi.specs.Out.{Reports};
 ghost use Rattle.capi.specs.Rules.{mode_named, mode_numbered, named, reading_named, revision_numbered, rules_numbered, table_named, unknown};
 
@@ -97,16 +98,17 @@ pub(crate) fn response_rules_named(number: u32) -> Result<ResponseRules, Unknown
     Ok(ResponseRules { mode, revision })
 }
 
-// What a call answers by what a number names.
-pub(crate) fn report_by<R, T: Answer, E: Refused, F: FnOnce(R) -> Result<T, E>>(
-    name: Result<R, Unknown>,
-    call: F,
+// What a call answers by the rules of a number. A call that writes to lent bytes takes the number by itself: where none are named the closure
+// is not called, and no clause says that what it would write to stays.
+pub(crate) fn by_rules<T: Answer, E: Refused, F: FnOnce(Rules) -> Result<T, E>>(
+    number: u32,
     out: &mut Numbers,
+    call: F,
 ) -> u32
     requires { F.IsAlwaysCallable call }
-    ensures { (say : R → Said T.Told) → ((by : R) (a : Result T E) → F.post call by a → said_by T.told E.why a ≡ say by) → Reports T.numbers (then (named name) say) out.old out.new result }
+    ensures { (say : Rules → Said T.Told) → ((by : Rules) (a : Result T E) → F.post call by a → said_by T.told E.why a ≡ say by) → Reports T.numbers (then (rules_numbered number) say) out.old out.new result }
 {
-    match name {
+    match rules_named(number) {
         Ok(by) => report(call(by), out),
         Err(unknown) => unknown.store(out),
     }

@@ -126,7 +126,8 @@ fn entry_at(command: bool, s: &[u8], place: usize) -> Session
     }
 }
 
-// The entries from a place of s to its end.
+// The entries from a place of s to its end. Inlined, or the record is copied.
+#[inline(always)]
 pub(crate) fn entries(command: bool, s: &[u8], place: usize) -> Entries
     requires { done (walk unlimited 3 (handle_width command) s.now place) ≡ gives tt }
     ensures { gives result ≡ entries_by_value (walk unlimited 3 (handle_width command) s.now place) }

@@ -47,13 +47,10 @@ module _ (s : List ℕ) (handle : ℕ) where
   open_where (Some i) at = is_open_lem at
   open_where None at = is_not_open at
 
-  pub found_inside : {p : ℕ} → p ≡ place_of s handle → p ≤ count_of s
+  -- it is one of those that are open
+  pub place_inside : place_of s handle ≤ count_of s
   unfolding place_of
-  found_inside at = rw at (place_most s handle (count_of s))
-
-  -- one of the 64 places, and one of those that are open
-  pub found_few : {i : ℕ} → suc i ≡ place_of s handle → (i < 64) × (i < count_of s)
-  found_few at = let inside = found_inside at in let most = count_most s in (omega arith, omega arith)
+  place_inside = place_most s handle (count_of s)
 
   -- ---- opening
 
@@ -123,18 +120,15 @@ module _ (s : List ℕ) (all : length s ≡ 4424) where
       length-set (put (count_of s) handle nonce s) 0 (count_of s + 1) ∙ length_put s all (count_of s) room handle nonce few
 
   module _ (handle : ℕ) (h : 0 < place_of s handle) where
-    open_some : place_of s handle ≤ count_of s
-    open_some = found_inside s handle refl
-
     last_few : length (nonce_at s (count_of s - 1)) ≤ 64
     last_few =
         let most = count_most s in
-        rw (length_nonce s all (count_of s - 1) (let some = open_some in omega arith)) (size_most s (count_of s - 1))
+        rw (length_nonce s all (count_of s - 1) (let some = place_inside s handle in omega arith)) (size_most s (count_of s - 1))
 
     pub length_closed : length (set (shifted (count_of s - 1) (place_of s handle - 1) s) 0 (count_of s - 1)) ≡ 4424
     length_closed =
         let most = count_most s in
-        let some = open_some in
+        let some = place_inside s handle in
         length-set (shifted (count_of s - 1) (place_of s handle - 1) s) 0 (count_of s - 1)
         ∙ length_put s all (place_of s handle - 1) (omega arith) (handle_at s (count_of s - 1)) (nonce_at s (count_of s - 1)) last_few
 
@@ -143,7 +137,7 @@ module _ (s : List ℕ) (all : length s ≡ 4424) where
     unfolding held place_of
     held_closed fits =
         let most = count_most s in
-        let some = open_some in
+        let some = place_inside s handle in
         let n : ℕ = count_of s - 1 in
         let i : ℕ = place_of s handle - 1 in
         let inside : i < 64 = omega arith in

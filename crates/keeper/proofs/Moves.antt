@@ -14,7 +14,7 @@ use Rattle.frame.specs.Parts.{field_in}
 use Rattle.std.specs.Bool.{then_some}
 use Rattle.keeper.specs.Keeper.{Open, session, is_open, is_named, repeated, replace, moves, moved}
 use Rattle.keeper.specs.State.{count_of, below, held, place_below, place_of, place_named, renewed, renewed_at, moved_in, same_place}
-use Rattle.keeper.proofs.Calls.{is_open_lem, is_not_open, found_inside}
+use Rattle.keeper.proofs.Calls.{is_open_lem, is_not_open, place_inside}
 use Rattle.keeper.proofs.Found.{place_has, replace_found, replace_not_found}
 use Rattle.keeper.proofs.Places.{count_most, length_renewed, count_renewed, handle_renewed, nonce_given, nonce_renewed}
 
@@ -48,7 +48,7 @@ module _ (s : List ℕ) (all : length s ≡ 4424) (nonce : List ℕ) (few : leng
       by zero e = sym (replace_not_found s handle (session handle nonce) (count_of s) e)
       by (suc i) e =
           let most = count_most s in
-          let inside = found_inside s handle refl in
+          let inside = place_inside s handle in
           let h : i < 64 = omega arith in
           ap (below (renewed i nonce s)) (count_renewed s all i h nonce few)
           ∙ replace_found s (renewed i nonce s) handle i (session handle nonce)
@@ -74,7 +74,7 @@ unfolding moved_in moved
 held_moved [] short s all = (refl, all)
 held_moved (m ∷ ms) short s all =
     let most = count_most s in
-    let inside = found_inside s m.handle refl in
+    let inside = place_inside s m.handle in
     let rest = held_moved ms short.1 (renewed_at (place_of s m.handle) m.nonce s) (length_renewed_at s all m.nonce short.0 (place_of s m.handle) (omega arith)) in
     (rest.0 ∙ ap (moved ms) (held_renewed s all m.nonce short.0 m.handle), rest.1)
 
@@ -162,15 +162,15 @@ module _ (s : List ℕ) (a b c : Session) where
     moved_three (suc (suc zero)) h room =
         let few = room.0 (omega arith) in
         let most = count_most s in
-        let inside = found_inside s a.handle refl in
+        let inside = place_inside s a.handle in
         let one : List ℕ = renewed_at (place_of s a.handle) x s in
         ap (λ (p : ℕ). renewed_at p y one) (sym (place_renewed s all x few (place_of s a.handle) (omega arith) b.handle))
     moved_three (suc (suc (suc zero))) h room =
         let few = room.0 (omega arith) in
         let short = room.1 (omega arith) in
         let most = count_most s in
-        let inside = found_inside s a.handle refl in
-        let beside = found_inside s b.handle refl in
+        let inside = place_inside s a.handle in
+        let beside = place_inside s b.handle in
         let one : List ℕ = renewed_at (place_of s a.handle) x s in
         let long = length_renewed_at s all x few (place_of s a.handle) (omega arith) in
         let first = place_renewed s all x few (place_of s a.handle) (omega arith) in

@@ -14,7 +14,7 @@ use Rattle.table.specs.declared.revision.Revision.{Revision}
 use Rattle.keeper.specs.Keeper.{Open, session, not_open, is_open, asked, opened, closed, exchange, moving, moved, answered}
 use Rattle.keeper.specs.State.{count_of, handle_at, below, held, place_of, put, shifted, opened_in, closed_in, moved_in, answered_in}
 use Rattle.keeper.specs.History.{Call, opening, answering, closing, asking, counting, silently, says, leaves, Event, Fits, Ran, fresh, next, moves_of, last_of, changed, told, recount}
-use Rattle.keeper.proofs.Calls.{is_not_open, found_inside, held_opened, length_opened, held_closed, length_closed}
+use Rattle.keeper.proofs.Calls.{is_not_open, place_inside, held_opened, length_opened, held_closed, length_closed}
 use Rattle.keeper.proofs.Exchanges.{moving_told}
 use Rattle.keeper.proofs.Found.{length_held}
 use Rattle.keeper.proofs.Moves.{held_moved}
@@ -99,7 +99,7 @@ closes s sound handle = by (closed handle (held s)) refl
     by (gives xs) e =
         let was = closed_test handle (held s) xs e in
         let place = has_place s handle was in
-        let inside = found_inside s handle refl in
+        let inside = place_inside s handle in
         let more : count_of s ≡ suc (count_of s - 1) = omega arith in
         let is = held_closed s sound.all handle place (fit_last s (count_of s - 1) more sound.fit) in (
           record {
@@ -200,7 +200,7 @@ module _ (s : List ℕ) (sound : Sound s) where
       by (gives xs) e =
           let was = closed_test handle (held s) xs e in
           let place = has_place s handle was in
-          let inside = found_inside s handle refl in
+          let inside = place_inside s handle in
           let more : count_of s ≡ suc (count_of s - 1) = omega arith in
           ap length (held_closed s sound.all handle place (fit_last s (count_of s - 1) more sound.fit)) ∙ length_without handle (held s) was
       by (refuses why) e = refl

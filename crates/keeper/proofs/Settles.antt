@@ -16,7 +16,7 @@ use Rattle.frame.specs.declared.session.Session.{Session}
 use Rattle.frame.specs.Parts.{Kept, EachField, entries_of, field_in}
 use Rattle.keeper.specs.Keeper.{Open, handle_repeated, counts_differ, repeated, moves, settling}
 use Rattle.keeper.specs.State.{held, renewed_at, moved_in, settled_in, same_place}
-use Rattle.keeper.proofs.Calls.{found_inside}
+use Rattle.keeper.proofs.Calls.{place_inside}
 use Rattle.keeper.proofs.Moves.{place_if, field_short, repeated_three, moved_three, moves_three}
 use Rattle.keeper.proofs.Places.{count_most}
 
@@ -38,7 +38,7 @@ count_of es h = length-take-le es.count (es.first ∷ es.second ∷ es.third ∷
 
 -- a place that is found is one of the 64, and is found for an entry that is there
 place_if_most : (s : List ℕ) (there : Bool) (e : Session) → place_if s there e ≤ 64
-place_if_most s true e = let most = count_most s in let inside = found_inside s e.handle refl in omega arith
+place_if_most s true e = let most = count_most s in let inside = place_inside s e.handle in omega arith
 place_if_most s false e = omega arith
 
 place_if_there : (s : List ℕ) (n m : ℕ) (e : Session) → 0 < place_if s (ltb n m) e → n < m

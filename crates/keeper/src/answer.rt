@@ -10,7 +10,7 @@ ghost use Rattle.keeper.specs.State.{answered_in, counted, held, place_named, re
 use crate::refusal::Refusal;
 use crate::state::{State, place, renew};
 use frame::rules::{Reading, Rules};
-use frame::session::{Entries, Session};
+use frame::session::{Entries, Field};
 use table::revision::Revision;
 
 // The place of the session of a handle, where there is one and the session is open.
@@ -34,14 +34,14 @@ fn repeated(first: Option<usize>, second: Option<usize>, third: Option<usize>) -
     same(first, second) || same(first, third) || same(second, third)
 }
 
-// Gives the session at a place, if there is one, the nonce of an entry of the answer.
-fn move_to(s: &mut State, at: Option<usize>, e: Session, response: &[u8])
-    requires { (counted at ≤ 64) × (0 < counted at → Kept 64 (length response.now) e.nonce) }
-    ensures { s.new ≡ renewed_at (counted at) (field_in response.now e.nonce) s.old }
+// Gives the session at a place, if there is one, a nonce of the answer.
+fn move_to(s: &mut State, at: Option<usize>, nonce: Field, response: &[u8])
+    requires { (counted at ≤ 64) × (0 < counted at → Kept 64 (length response.now) nonce) }
+    ensures { s.new ≡ renewed_at (counted at) (field_in response.now nonce) s.old }
 {
     if let Some(i) = at {
-        let from = e.nonce.at;
-        let to = from + e.nonce.size as usize;
+        let from = nonce.at;
+        let to = from + nonce.size as usize;
         renew(s, i, &response[from..to]);
     }
 }
@@ -62,9 +62,9 @@ fn settle(s: &mut State, command: Entries, response: Entries, bytes: &[u8]) -> R
     if count != response.count {
         return Err(Refusal::CountsDiffer);
     }
-    move_to(s, first, response.first, bytes);
-    move_to(s, second, response.second, bytes);
-    move_to(s, third, response.third, bytes);
+    move_to(s, first, response.first.nonce, bytes);
+    move_to(s, second, response.second.nonce, bytes);
+    move_to(s, third, response.third.nonce, bytes);
     Ok(())
 }
 

@@ -21,6 +21,7 @@ pub fn new(keeper: &mut State)
 }
 
 // How many sessions are open.
+#[tactic(auto, using(crate::proofs::Found::length_held))]
 pub fn len(keeper: &State) -> usize
     ensures { result ≡ length (held keeper.now) }
 {
@@ -54,6 +55,7 @@ pub fn open(keeper: &mut State, handle: u32, nonce: &[u8]) -> Result<(), Refusal
 }
 
 // Closes a session. The last one takes its place.
+#[tactic(auto, using(crate::proofs::Calls::place_inside, crate::proofs::Places::count_most))]
 pub fn close(keeper: &mut State, handle: u32) -> Result<(), Refusal>
     ensures answer { said_done result ≡ done (closed handle (held keeper.old)) }
     ensures sessions { held keeper.new ≡ after (held keeper.old) (closed handle (held keeper.old)) }
@@ -69,6 +71,7 @@ pub fn close(keeper: &mut State, handle: u32) -> Result<(), Refusal>
 }
 
 // Where the nonce of a session stands in the keeper's bytes.
+#[tactic(auto, using(crate::proofs::Calls::place_inside, crate::proofs::Places::count_most, crate::proofs::Places::size_most))]
 pub fn ask(keeper: &State, handle: u32) -> Result<Span, Refusal>
     ensures nonce { bytes_of (said_asked result) keeper.now ≡ asked handle (held keeper.now) }
     ensures place { said_asked result ≡ asked_in handle keeper.now }

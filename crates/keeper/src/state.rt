@@ -22,7 +22,7 @@ pub(crate) const NONCES: usize = 328;
 fn capped(n: u8) -> usize
     ensures { result ≡ capped n }
 {
-    if n < 64 { n as usize } else { 64 }
+    (n as usize).min(PLACES)
 }
 
 // How many sessions are open.
@@ -33,7 +33,7 @@ pub(crate) fn count(s: &State) -> usize
     capped(s[COUNT])
 }
 
-// ---- one place
+// ---- one place: a plain number below 64, since the search reckons with it, and would take a type of its own apart at every use
 
 // Its handle stands with the last byte first, as most machines have their numbers.
 #[tactic(auto, unfolding(crate::specs::State::handle_at, base::specs::Bytes::number))]
@@ -76,6 +76,7 @@ pub(crate) fn put(s: &mut State, i: usize, handle: u32, nonce: &[u8])
 }
 
 // The session of one place at another.
+#[tactic(auto, using(crate::proofs::Places::size_most))]
 pub(crate) fn shift(s: &mut State, from: usize, to: usize)
     requires { (from < 64) × (to < 64) }
     ensures bytes { s.new ≡ shifted from to s.old }
@@ -106,6 +107,7 @@ fn has(s: &State, from: usize, handle: u32) -> bool
 }
 
 // The last place that has the handle, of those from one on up to another.
+#[tactic(auto, using(crate::proofs::Found::place_hit, crate::proofs::Found::place_miss))]
 fn within(s: &State, from: usize, to: usize, handle: u32) -> Option<usize>
     requires { (from ≤ to) × (to ≤ 64) }
     ensures { place_below s.now handle to ≡ counted_or (place_below s.now handle from) result }
@@ -118,7 +120,9 @@ fn within(s: &State, from: usize, to: usize, handle: u32) -> Option<usize>
     None
 }
 
-// The same of all open places: a group is looked at one by one only where it has the handle.
+// The same of all open places: a group is looked at one by one only where it has the handle. Where one group starts the one before it
+// ends, so a `for` over the groups, which reckons both anew, is no plainer.
+#[tactic(auto, using(crate::proofs::Found::nothing_below, crate::proofs::Places::count_most), unfolding(crate::specs::State::place_of))]
 pub(crate) fn place(s: &State, handle: u32) -> Option<usize>
     ensures { counted result ≡ place_of s.now handle }
 {

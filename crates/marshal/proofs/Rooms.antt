@@ -2,17 +2,17 @@
 -- Assumes nothing.
 use mathlib.Core.Path.{◌≡◌, refl, sym, ◌∙◌, ap}
 use mathlib.Core.List.{List, [], ◌∷◌, ◌++◌, append_assoc}
-use Prim.Native.Nat.{ℕ, ◌+◌, ◌-◌, ◌≤◌, ◌<◌}
+use Prim.Native.Nat.{ℕ, ◌+◌, ◌≤◌, ◌<◌}
 use native.Mathlib.Nat.{add-zero, zero-add}
 use native.Mathlib.Numerals.{add-one}
 use native.Mathlib.Omega.{arith}
-use borrow.Author.Tests.{le-leb}
 use lib.ListN.{length, take, drop, set, length-append, take-append-drop}
 use lib.Seq.{take_at, drop-drop, length-take-le, drop-append-add, set_split}
+use mir.Syntax.{w16, w32}
+use Rattle.std.specs.Int.{to_be_bytes}
 use Rattle.base.specs.Bytes.{bytes}
-use Rattle.base.specs.Field.{laid, write_field}
-use Rattle.base.specs.Said.{after}
-use Rattle.base.proofs.Bytes.{length_bytes}
+use Rattle.base.specs.Field.{laid}
+use Rattle.base.proofs.Bytes.{two_big_endian, four_big_endian}
 use Rattle.base.proofs.Laid.{length_laid}
 use Rattle.marshal.specs.Laid.{Puts}
 
@@ -46,13 +46,12 @@ laid_start t s = ap (λ (n : ℕ). t ++ drop n s) (zero-add (length t))
 
 -- ---- one put and the next
 
--- a field that was written, and one byte
-pub puts_field : (w place n : ℕ) (s : List ℕ) {later : List ℕ} → place + w ≤ length s → later ≡ after s (write_field w place n s)
-    → Puts place (bytes w n) s (place + w) later
-puts_field w place n s h e = record {
-  next_is = ap (λ (k : ℕ). place + k) (sym (length_bytes w n));
-  later_is = e ∙ rw (le-leb w (length s - place) (omega arith)) (rw length_bytes refl);
-}
+-- a number of 16 or of 32 bits, and one byte
+pub puts_two : (n : ℕ) {t : List ℕ} → t ≡ to_be_bytes w16 n → {place next : ℕ} {s later : List ℕ} → Puts place t s next later → Puts place (bytes 2 n) s next later
+puts_two n is p = rw (is ∙ two_big_endian n) at p
+
+pub puts_four : (n : ℕ) {t : List ℕ} → t ≡ to_be_bytes w32 n → {place next : ℕ} {s later : List ℕ} → Puts place t s next later → Puts place (bytes 4 n) s next later
+puts_four n is p = rw (is ∙ four_big_endian n) at p
 
 pub puts_byte : (place b : ℕ) (s : List ℕ) → place < length s → Puts place (b ∷ []) s (place + 1) (set s place b)
 puts_byte place b s h = record { next_is = refl; later_is = rw add-one (set_split s place b h) }

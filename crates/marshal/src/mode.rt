@@ -6,7 +6,7 @@ ghost use Rattle.marshal.specs.Mode.{asked, reading_of, rules_for};
 use frame::rules::{Reading, Rules};
 use table::revision::Revision;
 
-#[derive(Clone, Copy)]
+#[derive(Clone, Copy, PartialEq)]
 pub enum Mode {
     Rust,
     Standard,
@@ -23,12 +23,7 @@ pub struct ResponseRules {
 pub(crate) fn asks_bad_tag(rules: ResponseRules) -> bool
     ensures { result ≡ asked rules }
 {
-    let mode = rules.mode;
-    match mode {
-        Mode::Rust => false,
-        Mode::Standard => false,
-        Mode::BadTag => true,
-    }
+    rules.mode == Mode::BadTag
 }
 
 // The reading by which what is written in a mode is read again.
@@ -45,10 +40,8 @@ fn reading_of(mode: Mode) -> Reading
 pub(crate) fn rules_for(rules: ResponseRules) -> Rules
     ensures { result ≡ rules_for rules }
 {
-    let mode = rules.mode;
-    let revision = rules.revision;
     Rules {
-        reading: reading_of(mode),
-        revision,
+        reading: reading_of(rules.mode),
+        revision: rules.revision,
     }
 }

@@ -11,7 +11,7 @@ ghost use Rattle.frame.specs.Rules.{unlimited};
 ghost use Rattle.marshal.specs.Laid.{Puts, layout_signed};
 ghost use Rattle.marshal.specs.Write.{field_there, session_there, sessions_there};
 
-use base::field::{write_bytes, write_u16, write_u32};
+use base::field::write_bytes;
 use frame::session::{Entries, Field, Session};
 
 // Copies all of t.
@@ -23,22 +23,6 @@ pub(crate) fn put(t: &[u8], place: usize, room: &mut [u8]) -> usize
     place + t.len()
 }
 
-pub(crate) fn put_u16(n: u16, place: usize, room: &mut [u8]) -> usize
-    requires { place + 2 ≤ length room.old }
-    ensures { Puts place (bytes 2 n) room.old result room.new }
-{
-    let _ = write_u16(room, place, n);
-    place + 2
-}
-
-pub(crate) fn put_u32(n: u32, place: usize, room: &mut [u8]) -> usize
-    requires { place + 4 ≤ length room.old }
-    ensures { Puts place (bytes 4 n) room.old result room.new }
-{
-    let _ = write_u32(room, place, n);
-    place + 4
-}
-
 // A nonce or an HMAC of the lent session bytes, as a TPM2B.
 fn put_tpm2b(f: Field, lent: &[u8], place: usize, room: &mut [u8]) -> usize
     requires f_value { field_there unlimited (length lent.now) f ≡ gives tt }
@@ -47,7 +31,7 @@ fn put_tpm2b(f: Field, lent: &[u8], place: usize, room: &mut [u8]) -> usize
 {
     let from = f.at;
     let to = from + f.size as usize;
-    let data = put_u16(f.size, place, room);
+    let data = put(&f.size.to_be_bytes(), place, room);
     put(&lent[from..to], data, room)
 }
 
@@ -69,7 +53,7 @@ fn put_entry(command: bool, e: Session, lent: &[u8], place: usize, room: &mut [u
     ensures { Puts place (layout_entry (handle_width command) (entry_in lent.now e)) room.old result room.new }
 {
     if command {
-        let behind = put_u32(e.handle, place, room);
+        let behind = put(&e.handle.to_be_bytes(), place, room);
         return put_signed(e, lent, behind, room);
     }
     put_signed(e, lent, place, room)
@@ -105,7 +89,7 @@ pub(crate) fn put_header(tag: u16, total: u32, code: u32, room: &mut [u8]) -> us
     requires { 10 ≤ length room.old }
     ensures { Puts 0 (bytes 2 tag ++ (bytes 4 total ++ bytes 4 code)) room.old result room.new }
 {
-    let size = put_u16(tag, 0, room);
-    let at = put_u32(total, size, room);
-    put_u32(code, at, room)
+    let size = put(&tag.to_be_bytes(), 0, room);
+    let at = put(&total.to_be_bytes(), size, room);
+    put(&code.to_be_bytes(), at, room)
 }

@@ -11,7 +11,7 @@ ghost use Rattle.base.specs.Field.{laid};
 ghost use Rattle.marshal.specs.Write.{Ready, counted, room_after, write_bad_tag, write_error, write_response};
 
 use crate::mode::{ResponseRules, asks_bad_tag, rules_for};
-use crate::put::{put, put_entries, put_header, put_u32};
+use crate::put::{put, put_entries, put_header};
 use crate::total::{
     entries_length, fits, found, judge_handles, judge_total, look, tag_for, too_many,
 };
@@ -92,13 +92,16 @@ fn judge_response(
     if rc.0 != 0 {
         return judge_error(rc, sessions.count, room);
     }
-    judge_handles(row.responses, handles.len())?;
     let limit = longest(rules_for(rules));
-    found(limit, lent.len(), look(limit, sessions, lent.len()))?;
+    // Before the handles are judged: LLVM takes what comes behind so many tests for cold, and hands the record over in place of inlining.
+    let looked = look(limit, sessions, lent.len());
+    let entries = entries_length(false, sessions);
+    judge_handles(row.responses, handles.len())?;
+    found(limit, lent.len(), looked)?;
     judge_total(
         tag_for(sessions.count),
         handles.len(),
-        entries_length(false, sessions),
+        entries,
         parameters.len(),
         room,
     )
@@ -122,7 +125,7 @@ fn lay_success(
         put(parameters, behind, room);
         return;
     }
-    let from = put_u32(parameters.len() as u32, behind, room);
+    let from = put(&(parameters.len() as u32).to_be_bytes(), behind, room);
     let to = put(parameters, from, room);
     put_entries(false, sessions, lent, to, room);
 }

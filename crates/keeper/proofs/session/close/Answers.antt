@@ -6,8 +6,7 @@ use native.Mathlib.Omega.{arith}
 use lib.ListN.{length, set}
 use Rattle.keeper.specs.Keeper.{closed}
 use Rattle.keeper.specs.State.{count_of, held, place_of, shifted, closed_in, handle_at}
-use Rattle.keeper.proofs.Places.{count_most}
-use Rattle.keeper.proofs.Calls.{refused, accepted, found_few, closed_not, closed_given, held_closed}
+use Rattle.keeper.proofs.Calls.{refused, accepted, closed_not, closed_given, held_closed}
 use Rattle.std.proofs.Common.{rules}
 use Rattle.keeper.proofs.session.close.Goals as goal
 
@@ -17,25 +16,6 @@ returns-in_default c =
     let s = c.args.keeper.now in
     let each = refused s (closed c.args.handle (held s)) _ (closed_not s c.args.handle c.in_default.ensures) in
     record { answer = each.0; sessions = each.1.0; bytes = each.1.1 }
-
-pub overflow_sub-last : goal.overflow_sub-last
-overflow_sub-last c =
-    let few = found_few c.args.keeper.now c.args.handle c.in-Some.ensures in
-    let is = c.count-last.ensures in
-    omega arith
-
-pub shift-requires : goal.shift-requires
-shift-requires c =
-    let few = found_few c.args.keeper.now c.args.handle c.in-Some.ensures in
-    let most = count_most c.args.keeper.now in
-    let is = c.count-last.ensures in
-    (omega arith, few.0)
-
-pub overflow_cast-keeper : goal.overflow_cast-keeper
-overflow_cast-keeper c =
-    let most = count_most c.args.keeper.now in
-    let is = c.count-last.ensures in
-    omega arith
 
 pub returns : goal.returns
 unfolding closed_in

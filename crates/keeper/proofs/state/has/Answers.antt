@@ -25,6 +25,3 @@ loop-i-preserved c =
         λ e. none_more a.s.now a.handle a.from l.i (l.invariant.1 (sym w.any-is ∙ e)) (λ q. w.if-handle_at-handle.false (c.handle_at.ensures ∙ q)),
       )
     ]
-
-pub returns : goal.returns
-returns c = λ e k h. c.loop-i.invariant.1 e k (omega arith)

@@ -9,13 +9,6 @@ use Rattle.keeper.proofs.Places.{size_most, length_nonce, nonce_through}
 use Rattle.std.proofs.Common.{rules}
 use Rattle.keeper.proofs.state.shift.Goals as goal
 
-pub slice_bounds-nonce-end : goal.slice_bounds-nonce-end
-slice_bounds-nonce-end c =
-    let a = c.args in
-    let few : size_at a.s.now a.from ≤ 64 = size_most a.s.now a.from in
-    let is = c.size_at-size.ensures in
-    search rules
-
 pub slice_bounds-put-end : goal.slice_bounds-put-end
 slice_bounds-put-end c =
     let a = c.args in

@@ -20,7 +20,7 @@ returns-then-sessions-gt-MAX_SESSIONS c =
 pub judge_total-requires-clause-few_entries : goal.judge_total-requires-clause-few_entries
 judge_total-requires-clause-few_entries c =
     let a = c.args in
-    rw c.entries_length.ensures (entries_small true a.sessions (search rules) (search rules) (search rules))
+    rw c.entries_length-entries.ensures (entries_small true a.sessions (search rules) (search rules) (search rules))
 
 pub returns-in_err-row : goal.returns-in_err-row
 returns-in_err-row c =
@@ -42,7 +42,7 @@ returns-in_err-found c =
     let h = handed a.handles.now a.sessions a.lent.now a.parameters.now in
     passed_on _ _ _ c.from_residual-in_err-found.ensures.1
     ∙ field_missing (book_of a.rules).longest 4 a.tag.0 c.in_ok-row.row.handles h a.room c.in_ok-judge_handles.ensures
-    (rw c.longest-limit.ensures at (c.in_err-found.ensures ∙ c.look.ensures))
+    (rw c.longest-limit.ensures at (c.in_err-found.ensures ∙ c.look-looked.ensures))
     ∙ command_judged (book_of a.rules) a.tag.0 a.cc.0 h a.room (c.if-tag-tag_for.false ∙ c.tag_for.ensures) c.if-sessions-gt-MAX_SESSIONS.false c.in_ok-row.ensures
 
 pub returns : goal.returns
@@ -51,7 +51,7 @@ returns c =
     let h = handed a.handles.now a.sessions a.lent.now a.parameters.now in
     c.judge_total.ensures
     ∙ all_there (book_of a.rules).longest 4 a.tag.0 c.in_ok-row.row.handles h a.room c.in_ok-judge_handles.ensures
-    (rw c.longest-limit.ensures at (c.in_ok-found.ensures ∙ c.look.ensures)) c.entries_length.ensures
+    (rw c.longest-limit.ensures at (c.in_ok-found.ensures ∙ c.look-looked.ensures)) c.entries_length-entries.ensures
     ∙ command_judged (book_of a.rules) a.tag.0 a.cc.0 h a.room (c.if-tag-tag_for.false ∙ c.tag_for.ensures) c.if-sessions-gt-MAX_SESSIONS.false c.in_ok-row.ensures
 
 pub returns-then-tag-tag_for : goal.returns-then-tag-tag_for

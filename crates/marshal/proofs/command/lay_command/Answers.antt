@@ -11,6 +11,7 @@ use Rattle.frame.specs.Parts.{entries_in}
 use Rattle.frame.specs.Rules.{unlimited}
 use Rattle.marshal.specs.Handed.{handed, entries_handed}
 use Rattle.marshal.proofs.Frames.{command_total, plain_tag, sessions_tag, handles_room, plain_room, plain_put, sizes, size_room, sized_room, last_room, sized_put}
+use Rattle.marshal.proofs.Rooms.{puts_four}
 use Rattle.marshal.proofs.Sessions.{entries_none}
 use Rattle.marshal.proofs.command.lay_command.Goals as goal
 
@@ -71,13 +72,13 @@ overflow_sub-size-3 c =
     let sum = sizes a.tag.0 a.cc.0 a.total a.handles.now e a.parameters.now a.room.now whole c.requires.room_for c.put_header-at.ensures c.put-behind.ensures signed in
     omega arith
 
-pub put_u32-from-requires : goal.put_u32-from-requires
-put_u32-from-requires c =
+pub put-from-requires : goal.put-from-requires
+put-from-requires c =
     let a = c.args in
     let h = handed a.handles.now a.sessions a.lent.now a.parameters.now in
     let e = layout_entries 4 (entries_handed h) in
     let whole = c.requires.total_is ∙ command_total unlimited h c.requires.there a.tag.0 in
-    size_room a.tag.0 a.cc.0 a.total a.handles.now e a.parameters.now a.room.now whole c.requires.room_for c.put_header-at.ensures c.put-behind.ensures (sessions_tag c.requires.tag_is c.if-sessions-eq0.false)
+    rw c.to_be_bytes.ensures (size_room a.tag.0 a.cc.0 a.total a.handles.now e a.parameters.now a.room.now whole c.requires.room_for c.put_header-at.ensures c.put-behind.ensures (sessions_tag c.requires.tag_is c.if-sessions-eq0.false))
 
 pub put_entries-to-requires-clause-es_in_bounds : goal.put_entries-to-requires-clause-es_in_bounds
 put_entries-to-requires-clause-es_in_bounds c =
@@ -88,7 +89,7 @@ put_entries-to-requires-clause-es_in_bounds c =
     let signed = sessions_tag c.requires.tag_is c.if-sessions-eq0.false in
     let sum = sizes a.tag.0 a.cc.0 a.total a.handles.now e a.parameters.now a.room.now whole c.requires.room_for c.put_header-at.ensures c.put-behind.ensures signed in
     let is : a.total - c.put-behind.result - 4 - length a.parameters.now ≡ length e = omega arith in
-    let told = rw is at c.put_u32-from.ensures in
+    let told = rw is at (puts_four _ c.to_be_bytes.ensures c.put-from.ensures) in
     sized_room a.tag.0 a.cc.0 a.total a.handles.now e a.parameters.now a.room.now whole c.requires.room_for c.put_header-at.ensures c.put-behind.ensures signed told
 
 pub put-requires-2 : goal.put-requires-2
@@ -100,7 +101,7 @@ put-requires-2 c =
     let signed = sessions_tag c.requires.tag_is c.if-sessions-eq0.false in
     let sum = sizes a.tag.0 a.cc.0 a.total a.handles.now e a.parameters.now a.room.now whole c.requires.room_for c.put_header-at.ensures c.put-behind.ensures signed in
     let is : a.total - c.put-behind.result - 4 - length a.parameters.now ≡ length e = omega arith in
-    let told = rw is at c.put_u32-from.ensures in
+    let told = rw is at (puts_four _ c.to_be_bytes.ensures c.put-from.ensures) in
     last_room a.tag.0 a.cc.0 a.total a.handles.now e a.parameters.now a.room.now whole c.requires.room_for c.put_header-at.ensures c.put-behind.ensures signed told c.put_entries-to.ensures
 
 pub returns : goal.returns
@@ -113,5 +114,5 @@ returns c =
     let signed = sessions_tag c.requires.tag_is c.if-sessions-eq0.false in
     let sum = sizes a.tag.0 a.cc.0 a.total a.handles.now e a.parameters.now a.room.now whole c.requires.room_for c.put_header-at.ensures c.put-behind.ensures signed in
     let is : a.total - c.put-behind.result - 4 - length a.parameters.now ≡ length e = omega arith in
-    let told = rw is at c.put_u32-from.ensures in
+    let told = rw is at (puts_four _ c.to_be_bytes.ensures c.put-from.ensures) in
     sized_put a.tag.0 a.cc.0 a.total a.handles.now e a.parameters.now a.room.now whole c.requires.room_for c.put_header-at.ensures c.put-behind.ensures signed told c.put_entries-to.ensures c.put-2.ensures

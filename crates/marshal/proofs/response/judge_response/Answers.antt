@@ -29,7 +29,7 @@ returns-then-asks_bad_tag c =
 pub judge_total-requires-clause-few_entries : goal.judge_total-requires-clause-few_entries
 judge_total-requires-clause-few_entries c =
     let a = c.args in
-    rw c.entries_length.ensures (entries_small false a.sessions (search rules) (search rules) (search rules))
+    rw c.entries_length-entries.ensures (entries_small false a.sessions (search rules) (search rules) (search rules))
 
 pub returns-in_err-judge_handles : goal.returns-in_err-judge_handles
 returns-in_err-judge_handles c =
@@ -45,7 +45,7 @@ returns-in_err-found c =
     let h = handed a.handles.now a.sessions a.lent.now a.parameters.now in
     passed_on _ _ _ c.from_residual-in_err-found.ensures.1
     ∙ field_missing (book_for a.rules).longest 0 (tag_for a.sessions.count) c.in_ok-row.row.responses h a.room c.in_ok-judge_handles.ensures
-    (rw (c.longest-limit.ensures ∙ ap (λ (r : Rules). (book_of r).longest) c.rules_for.ensures) at (c.in_err-found.ensures ∙ c.look.ensures))
+    (rw (c.longest-limit.ensures ∙ ap (λ (r : Rules). (book_of r).longest) c.rules_for.ensures) at (c.in_err-found.ensures ∙ c.look-looked.ensures))
     ∙ success_judged (book_for a.rules) (asked a.rules) a.cc.0 a.rc.0 h a.room c.if-sessions-gt-MAX_SESSIONS.false c.in_ok-row.ensures (sym c.asks_bad_tag.ensures ∙ c.if-asks_bad_tag.false) c.if-rc-ne0.false
 
 pub returns : goal.returns
@@ -54,7 +54,7 @@ returns c =
     let h = handed a.handles.now a.sessions a.lent.now a.parameters.now in
     (rw c.tag_for.ensures at c.judge_total.ensures)
     ∙ all_there (book_for a.rules).longest 0 (tag_for a.sessions.count) c.in_ok-row.row.responses h a.room c.in_ok-judge_handles.ensures
-    (rw (c.longest-limit.ensures ∙ ap (λ (r : Rules). (book_of r).longest) c.rules_for.ensures) at (c.in_ok-found.ensures ∙ c.look.ensures)) c.entries_length.ensures
+    (rw (c.longest-limit.ensures ∙ ap (λ (r : Rules). (book_of r).longest) c.rules_for.ensures) at (c.in_ok-found.ensures ∙ c.look-looked.ensures)) c.entries_length-entries.ensures
     ∙ success_judged (book_for a.rules) (asked a.rules) a.cc.0 a.rc.0 h a.room c.if-sessions-gt-MAX_SESSIONS.false c.in_ok-row.ensures (sym c.asks_bad_tag.ensures ∙ c.if-asks_bad_tag.false) c.if-rc-ne0.false
 
 pub returns-in_err-row : goal.returns-in_err-row

@@ -8,6 +8,7 @@ use Rattle.frame.specs.Parts.{entries_in}
 use Rattle.frame.specs.Rules.{unlimited}
 use Rattle.marshal.specs.Handed.{handed, entries_handed, tag_for}
 use Rattle.marshal.proofs.Frames.{success_total, success_layout, plain_tag, sessions_tag, handles_room, plain_room, plain_put, size_room, sized_room, last_room, sized_put}
+use Rattle.marshal.proofs.Rooms.{puts_four}
 use Rattle.marshal.proofs.Sessions.{entries_none}
 use Rattle.marshal.proofs.response.lay_success.Goals as goal
 
@@ -41,14 +42,14 @@ returns-then-sessions-eq0 c =
     rw (success_layout h)
     (plain_put tag 0 a.total a.handles.now a.parameters.now e a.room.now whole c.requires.room_for (rw c.tag_for.ensures at c.put_header-at.ensures) c.put-behind.ensures (plain_tag c.requires.tag_is c.if-sessions-eq0.true) {end = c.put.result} (rw (none, append-nil) c.put.ensures))
 
-pub put_u32-from-requires : goal.put_u32-from-requires
-put_u32-from-requires c =
+pub put-from-requires : goal.put-from-requires
+put-from-requires c =
     let a = c.args in
     let h = handed a.handles.now a.sessions a.lent.now a.parameters.now in
     let e = layout_entries 0 (entries_handed h) in
     let tag = tag_for a.sessions.count in
     let whole = c.requires.total_is ∙ success_total unlimited h c.requires.there tag in
-    size_room tag 0 a.total a.handles.now a.parameters.now e a.room.now whole c.requires.room_for (rw c.tag_for.ensures at c.put_header-at.ensures) c.put-behind.ensures (sessions_tag c.requires.tag_is c.if-sessions-eq0.false)
+    rw c.to_be_bytes.ensures (size_room tag 0 a.total a.handles.now a.parameters.now e a.room.now whole c.requires.room_for (rw c.tag_for.ensures at c.put_header-at.ensures) c.put-behind.ensures (sessions_tag c.requires.tag_is c.if-sessions-eq0.false))
 
 pub put-to-requires : goal.put-to-requires
 put-to-requires c =
@@ -57,7 +58,7 @@ put-to-requires c =
     let e = layout_entries 0 (entries_handed h) in
     let tag = tag_for a.sessions.count in
     let whole = c.requires.total_is ∙ success_total unlimited h c.requires.there tag in
-    sized_room tag 0 a.total a.handles.now a.parameters.now e a.room.now whole c.requires.room_for (rw c.tag_for.ensures at c.put_header-at.ensures) c.put-behind.ensures (sessions_tag c.requires.tag_is c.if-sessions-eq0.false) c.put_u32-from.ensures
+    sized_room tag 0 a.total a.handles.now a.parameters.now e a.room.now whole c.requires.room_for (rw c.tag_for.ensures at c.put_header-at.ensures) c.put-behind.ensures (sessions_tag c.requires.tag_is c.if-sessions-eq0.false) (puts_four _ c.to_be_bytes.ensures c.put-from.ensures)
 
 pub put_entries-requires-clause-es_in_bounds : goal.put_entries-requires-clause-es_in_bounds
 put_entries-requires-clause-es_in_bounds c =
@@ -66,7 +67,7 @@ put_entries-requires-clause-es_in_bounds c =
     let e = layout_entries 0 (entries_handed h) in
     let tag = tag_for a.sessions.count in
     let whole = c.requires.total_is ∙ success_total unlimited h c.requires.there tag in
-    last_room tag 0 a.total a.handles.now a.parameters.now e a.room.now whole c.requires.room_for (rw c.tag_for.ensures at c.put_header-at.ensures) c.put-behind.ensures (sessions_tag c.requires.tag_is c.if-sessions-eq0.false) c.put_u32-from.ensures c.put-to.ensures
+    last_room tag 0 a.total a.handles.now a.parameters.now e a.room.now whole c.requires.room_for (rw c.tag_for.ensures at c.put_header-at.ensures) c.put-behind.ensures (sessions_tag c.requires.tag_is c.if-sessions-eq0.false) (puts_four _ c.to_be_bytes.ensures c.put-from.ensures) c.put-to.ensures
 
 pub returns : goal.returns
 returns c =
@@ -76,4 +77,4 @@ returns c =
     let tag = tag_for a.sessions.count in
     let whole = c.requires.total_is ∙ success_total unlimited h c.requires.there tag in
     rw (success_layout h)
-    (sized_put tag 0 a.total a.handles.now a.parameters.now e a.room.now whole c.requires.room_for (rw c.tag_for.ensures at c.put_header-at.ensures) c.put-behind.ensures (sessions_tag c.requires.tag_is c.if-sessions-eq0.false) c.put_u32-from.ensures c.put-to.ensures c.put_entries.ensures)
+    (sized_put tag 0 a.total a.handles.now a.parameters.now e a.room.now whole c.requires.room_for (rw c.tag_for.ensures at c.put_header-at.ensures) c.put-behind.ensures (sessions_tag c.requires.tag_is c.if-sessions-eq0.false) (puts_four _ c.to_be_bytes.ensures c.put-from.ensures) c.put-to.ensures c.put_entries.ensures)
