@@ -7,32 +7,32 @@ use capi::field;
 use capi::out::Numbers;
 
 pub(crate) fn read(call: Call, bytes: &[u8]) -> Option<Report> {
-    let mut out = [0u64; 8];
+    let out = &mut [0u64; 8];
     let number = match call.name {
-        b"read_u16" => field::skein_read_u16(call.first, bytes, &mut out),
-        b"read_u32" => field::skein_read_u32(call.first, bytes, &mut out),
+        b"read_u16" => field::skein_read_u16(call.first, bytes, out),
+        b"read_u32" => field::skein_read_u32(call.first, bytes, out),
         _ => return None,
     };
     Some(Report {
         number,
         count: 1,
-        out,
+        out: *out,
     })
 }
 
 pub(crate) fn write(call: Call, bytes: &mut [u8]) -> Option<Report> {
-    let mut out = [0u64; 8];
+    let out = &mut [0u64; 8];
     let value = u32::try_from(call.second).ok()?;
     let number = match call.name {
-        b"write_bytes" => copied(call.first, value as usize, bytes, &mut out)?,
-        b"write_u32" => field::skein_write_u32(call.first, value, bytes, &mut out),
+        b"write_bytes" => copied(call.first, value as usize, bytes, out)?,
+        b"write_u32" => field::skein_write_u32(call.first, value, bytes, out),
         b"write_u16" => {
             let value = u16::try_from(value).ok()?;
-            field::skein_write_u16(call.first, value, bytes, &mut out)
+            field::skein_write_u16(call.first, value, bytes, out)
         }
         _ => return None,
     };
-    Some(Report::bare(number, out))
+    Some(Report::bare(number, *out))
 }
 
 // The copy of bytes, which has no call for C: so many of ff are put at the place.

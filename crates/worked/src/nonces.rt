@@ -7,26 +7,30 @@ use capi::nonce;
 use keeper::state::State;
 
 pub(crate) fn call(call: Call, bytes: &[u8], keeper: &mut State) -> Option<Report> {
-    let mut out = [0u64; 8];
+    let out = &mut [0u64; 8];
     let (count, number) = match call.name {
-        b"keeper_new" => (0, nonce::skein_keeper_new(keeper, &mut out)),
-        b"keeper_len" => (1, nonce::skein_keeper_len(keeper, &mut out)),
+        b"keeper_new" => (0, nonce::skein_keeper_new(keeper, out)),
+        b"keeper_len" => (1, nonce::skein_keeper_len(keeper, out)),
         b"keeper_open" => (
             0,
-            nonce::skein_keeper_open(call.code()?, bytes, keeper, &mut out),
+            nonce::skein_keeper_open(call.code()?, bytes, keeper, out),
         ),
-        b"keeper_close" => (0, nonce::skein_keeper_close(call.code()?, keeper, &mut out)),
+        b"keeper_close" => (0, nonce::skein_keeper_close(call.code()?, keeper, out)),
         b"keeper_answer" => {
             let table = table_number(call.rules.revision);
             let (command, response) = bytes.split_at_checked(call.first)?;
             (
                 0,
-                nonce::skein_keeper_answer(table, command, response, keeper, &mut out),
+                nonce::skein_keeper_answer(table, command, response, keeper, out),
             )
         }
         _ => return None,
     };
-    Some(Report { number, count, out })
+    Some(Report {
+        number,
+        count,
+        out: *out,
+    })
 }
 
 // The nonce's own bytes are shown, not where the keeper has them.
