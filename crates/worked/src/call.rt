@@ -52,15 +52,16 @@ fn answer<'a>(s: &[u8], room: &'a mut [u8], keeper: &'a mut State) -> Option<Ans
         second: text::decimal(words.next()?)?,
         rules: rules::named(words.next())?,
     };
-    answered(call, bytes, keeper)
+    answer_of(call, bytes, keeper)
 }
 
-fn answered<'a>(call: Call, bytes: &'a mut [u8], keeper: &'a mut State) -> Option<Answer<'a>> {
+// The answer of the call of that name.
+fn answer_of<'a>(call: Call, bytes: &'a mut [u8], keeper: &'a mut State) -> Option<Answer<'a>> {
     match call.name {
-        b"command_parts" => Some(records::command_parts(call.rules, bytes)),
-        b"response_parts" => Some(records::response_parts(call.rules, call.code()?, bytes)),
-        b"command_again" => records::command_again(call.rules, bytes, call.first),
-        b"response_again" => records::response_again(call.rules, call.code()?, bytes, call.second),
+        b"command_parts" => Some(records::command_parts(call, bytes)),
+        b"response_parts" => records::response_parts(call, bytes),
+        b"command_again" => records::command_again(call, bytes),
+        b"response_again" => records::response_again(call, bytes),
         b"command_view" => Some(Answer::Command(TpmCommand::cast(call.rules, bytes))),
         b"response_view" => {
             let cc = TpmCc(call.code()?);

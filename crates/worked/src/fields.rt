@@ -4,7 +4,6 @@ use crate::call::Call;
 use base::error::TpmError;
 use base::field::write_bytes;
 use capi::field;
-use capi::out::Numbers;
 
 pub(crate) fn read(call: Call, bytes: &[u8]) -> Option<Report> {
     let out = &mut [0u64; 8];
@@ -24,7 +23,7 @@ pub(crate) fn write(call: Call, bytes: &mut [u8]) -> Option<Report> {
     let out = &mut [0u64; 8];
     let value = u32::try_from(call.second).ok()?;
     let number = match call.name {
-        b"write_bytes" => copied(call.first, value as usize, bytes, out)?,
+        b"write_bytes" => return copied(call.first, value as usize, bytes),
         b"write_u32" => field::skein_write_u32(call.first, value, bytes, out),
         b"write_u16" => {
             let value = u16::try_from(value).ok()?;
@@ -35,12 +34,13 @@ pub(crate) fn write(call: Call, bytes: &mut [u8]) -> Option<Report> {
     Some(Report::bare(number, *out))
 }
 
-// The copy of bytes, which has no call for C: so many of ff are put at the place.
-fn copied(place: usize, count: usize, bytes: &mut [u8], out: &mut Numbers) -> Option<u32> {
+// The copy of bytes, which has no call for C: so many of ff are put at the place. Its one refusal is told as C has it elsewhere.
+fn copied(place: usize, count: usize, bytes: &mut [u8]) -> Option<Report> {
     let ones = [255u8; 64];
     let given = ones.get(..count).unwrap_or(&[]);
+    let mut out = [0u64; 8];
     match write_bytes(bytes, place, given) {
-        Ok(()) => Some(0),
+        Ok(()) => Some(Report::bare(0, out)),
         Err(
             TpmError::BufferOverflow {
                 area,
@@ -53,7 +53,7 @@ fn copied(place: usize, count: usize, bytes: &mut [u8], out: &mut Numbers) -> Op
             out[5] = needed as u64;
             out[6] = available as u64;
             out[7] = area.number() as u64;
-            Some(9)
+            Some(Report::bare(9, out))
         }
         Err(_) => None,
     }

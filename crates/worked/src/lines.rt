@@ -18,7 +18,7 @@ struct Coming {
     ghost within: { len < ROOM },
 }
 
-// A proved loop has to end, and nothing says that the input does: the turns count down from a number that no run uses up.
+// A proved loop has to end, and nothing says that the input does: it has more turns than a run uses up.
 pub(crate) fn each(rt: &impl Print, input: &mut impl Read) -> io::Result<()> {
     let mut chunk = [0u8; 65536];
     let mut keeper = [0u8; 4424];

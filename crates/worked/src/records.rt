@@ -2,6 +2,7 @@
 // again. It is written into the first bytes of where it stood, which are filled before, so that all of the frame that is
 // there later was written.
 use crate::answer::{Answer, Report};
+use crate::call::Call;
 use crate::rules::number;
 use base::code::TpmSt;
 use base::part::part;
@@ -10,9 +11,9 @@ use frame::header::RSP_COMMAND;
 use frame::rules::Rules;
 
 // The tag, the code, where the handles end, the areas in the order of the wire, and how many entries there are.
-pub(crate) fn command_parts<'a>(rules: Rules, s: &[u8]) -> Answer<'a> {
+pub(crate) fn command_parts<'a>(call: Call, bytes: &[u8]) -> Answer<'a> {
     let mut out = [0u64; 8];
-    let parts = command::skein_command_parts(number(rules), s, &mut out);
+    let parts = command::skein_command_parts(number(call.rules), bytes, &mut out);
     if parts.refusal != 0 {
         return Answer::Read(Report::bare(parts.refusal, out));
     }
@@ -32,14 +33,14 @@ pub(crate) fn command_parts<'a>(rules: Rules, s: &[u8]) -> Answer<'a> {
     }
 }
 
-pub(crate) fn response_parts<'a>(rules: Rules, cc: u32, s: &[u8]) -> Answer<'a> {
+pub(crate) fn response_parts<'a>(call: Call, bytes: &[u8]) -> Option<Answer<'a>> {
     let mut out = [0u64; 8];
-    let parts = response::skein_response_parts(number(rules), cc, s, &mut out);
+    let parts = response::skein_response_parts(number(call.rules), call.code()?, bytes, &mut out);
     if parts.refusal != 0 {
-        return Answer::Read(Report::bare(parts.refusal, out));
+        return Some(Answer::Read(Report::bare(parts.refusal, out)));
     }
     let r = parts.response;
-    Answer::Parts {
+    Some(Answer::Parts {
         numbers: [
             r.tag.0 as u64,
             r.rc.0 as u64,
@@ -51,36 +52,32 @@ pub(crate) fn response_parts<'a>(rules: Rules, cc: u32, s: &[u8]) -> Answer<'a> 
             r.entries.count as u64,
         ],
         entries: r.entries,
-    }
+    })
 }
 
-pub(crate) fn command_again<'a>(
-    rules: Rules,
-    bytes: &'a mut [u8],
-    room: usize,
-) -> Option<Answer<'a>> {
-    if room > bytes.len() {
+// The first number is how much room there is for the command.
+pub(crate) fn command_again<'a>(call: Call, bytes: &'a mut [u8]) -> Option<Answer<'a>> {
+    if call.first > bytes.len() {
         return None;
     }
-    let mut copy = [0u8; 4096];
-    let s = copy.get_mut(..bytes.len())?;
-    s.copy_from_slice(bytes);
+    let rules = number(call.rules);
     let mut out = [0u64; 8];
-    let parts = command::skein_command_parts(number(rules), s, &mut out);
+    let parts = command::skein_command_parts(rules, bytes, &mut out);
     if parts.refusal != 0 {
         return Some(Answer::Wrote(Report::bare(parts.refusal, out), bytes));
     }
-    bytes.fill(255);
+    let mut copy = [0u8; 4096];
+    let s = filled(bytes, &mut copy)?;
     let c = parts.command;
     let number = command::skein_command_write(
-        number(rules),
+        rules,
         c.tag.0,
         c.cc.0,
         part(s, Ok(c.handles)),
         c.entries,
         s,
         part(s, Ok(c.parameters)),
-        &mut bytes[..room],
+        &mut bytes[..call.first],
         &mut out,
     );
     let report = Report {
@@ -89,6 +86,47 @@ pub(crate) fn command_again<'a>(
         out,
     };
     Some(Answer::Wrote(report, bytes))
+}
+
+// Here the second number is it.
+pub(crate) fn response_again<'a>(call: Call, bytes: &'a mut [u8]) -> Option<Answer<'a>> {
+    let cc = call.code()?;
+    if call.second > bytes.len() {
+        return None;
+    }
+    let mut out = [0u64; 8];
+    let parts = response::skein_response_parts(number(call.rules), cc, bytes, &mut out);
+    if parts.refusal != 0 {
+        return Some(Answer::Wrote(Report::bare(parts.refusal, out), bytes));
+    }
+    let mut copy = [0u8; 4096];
+    let s = filled(bytes, &mut copy)?;
+    let r = parts.response;
+    let number = response::skein_response_write(
+        mode(call.rules, r.tag),
+        r.rc.0,
+        cc,
+        part(s, Ok(r.handles)),
+        r.entries,
+        s,
+        part(s, Ok(r.parameters)),
+        &mut bytes[..call.second],
+        &mut out,
+    );
+    let report = Report {
+        number,
+        count: 1,
+        out,
+    };
+    Some(Answer::Wrote(report, bytes))
+}
+
+// The bytes are filled; what they were is kept in the copy.
+fn filled<'a>(bytes: &mut [u8], copy: &'a mut [u8]) -> Option<&'a [u8]> {
+    let kept = copy.get_mut(..bytes.len())?;
+    kept.copy_from_slice(bytes);
+    bytes.fill(255);
+    Some(kept)
 }
 
 // The tag of the answer to a bad tag is asked for where it was read: the number behind that of the standard reading.
@@ -98,42 +136,4 @@ fn mode(rules: Rules, tag: TpmSt) -> u32 {
     } else {
         number(rules)
     }
-}
-
-pub(crate) fn response_again<'a>(
-    rules: Rules,
-    cc: u32,
-    bytes: &'a mut [u8],
-    room: usize,
-) -> Option<Answer<'a>> {
-    if room > bytes.len() {
-        return None;
-    }
-    let mut copy = [0u8; 4096];
-    let s = copy.get_mut(..bytes.len())?;
-    s.copy_from_slice(bytes);
-    let mut out = [0u64; 8];
-    let parts = response::skein_response_parts(number(rules), cc, s, &mut out);
-    if parts.refusal != 0 {
-        return Some(Answer::Wrote(Report::bare(parts.refusal, out), bytes));
-    }
-    bytes.fill(255);
-    let r = parts.response;
-    let number = response::skein_response_write(
-        mode(rules, r.tag),
-        r.rc.0,
-        cc,
-        part(s, Ok(r.handles)),
-        r.entries,
-        s,
-        part(s, Ok(r.parameters)),
-        &mut bytes[..room],
-        &mut out,
-    );
-    let report = Report {
-        number,
-        count: 1,
-        out,
-    };
-    Some(Answer::Wrote(report, bytes))
 }
