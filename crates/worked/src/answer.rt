@@ -37,15 +37,18 @@ impl fmt::Display for Report {
     }
 }
 
+// The answer of a line's call.
 #[derive(Drop)]
 pub(crate) enum Answer<'a> {
     Read(Report),
-    // The bytes as the call left them.
+    // With the bytes as the call left them.
     Wrote(Report, &'a [u8]),
     // The parts of a frame by value.
     Parts { numbers: [u64; 8], entries: Entries },
     // A nonce's own bytes.
     Nonce(&'a [u8]),
+    // A view, which is asked: how many bytes it holds, whether they pass the full check, and its parts. A view of bytes
+    // that `cast` refuses holds none.
     Command(TpmCommand<'a>),
     Response(TpmResponse<'a>),
 }
@@ -130,7 +133,7 @@ fn entry<W: fmt::Write>(f: &mut fmt::Formatter<W>, entry: &Session) -> fmt::Resu
     write!(f, " {attributes} {} {}", hmac.at, hmac.size)
 }
 
-// How many fields a refusal has: document 01's have two or three, the keeper's own (document 02, W8) none.
+// How many fields a refusal has, which comes by its number, as to C: document 01's have two or three, the keeper's own (document 02, W8) none.
 fn fields(number: u32) -> usize {
     match number {
         13..=17 => 0,
@@ -139,7 +142,7 @@ fn fields(number: u32) -> usize {
     }
 }
 
-// The area of a refusal, by the number that stands for it.
+// The area of a refusal, by the number that stands for it to C.
 fn area(number: u64) -> &'static str {
     match number {
         1 => "header",

@@ -1,5 +1,5 @@
-// The calls on a TPM2B, of which the first number is the capacity, and those of the fixed buffers that start from nothing, on a room of
-// their own.
+// The calls on a TPM2B, of which the first number is the capacity, and those of the fixed buffers that start from
+// nothing, each on a room of its own.
 use crate::answer::Report;
 use crate::call::Call;
 use capi::{buffer64, buffer1024, tpm2b};

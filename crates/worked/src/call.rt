@@ -28,16 +28,16 @@ impl Call<'_> {
     }
 }
 
-// The line, and its answer behind it.
+// The line, which need not be text, and its answer behind it.
 pub(crate) fn line(rt: &impl Print, s: &[u8], keeper: &mut State) -> io::Result<()> {
     rt.write_all(s)?;
     if let b"#" | [b'#', b' ', ..] = s {
-        return rt.write_all(b"\n");
+        return println!(rt);
     }
     let mut room = [0u8; 4096];
     match answer(s, &mut room, keeper) {
         Some(answer) => println!(rt; "{answer}"),
-        None => rt.write_all(b" ?\n"),
+        None => println!(rt; " ?"),
     }
 }
 

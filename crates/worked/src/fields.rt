@@ -34,7 +34,8 @@ pub(crate) fn write(call: Call, bytes: &mut [u8]) -> Option<Report> {
     Some(Report::bare(number, *out))
 }
 
-// The copy of bytes, which has no call for C: so many of ff are put at the place. Its one refusal is told as C has it elsewhere.
+// The copy of bytes, which has no call for C: so many of ff are put at the place. Its one refusal is told as a call for
+// C would tell it.
 fn copied(place: usize, count: usize, bytes: &mut [u8]) -> Option<Report> {
     let ones = [255u8; 64];
     let given = ones.get(..count).unwrap_or(&[]);

@@ -63,7 +63,7 @@ impl Coming {
         let line = &self.room[..self.len];
         if self.long {
             rt.write_all(line)?;
-            rt.write_all(b" ?\n")?;
+            println!(rt; " ?")?;
         } else {
             call::line(rt, line, keeper)?;
         }

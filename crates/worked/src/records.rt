@@ -55,7 +55,7 @@ pub(crate) fn response_parts<'a>(call: Call, bytes: &[u8]) -> Option<Answer<'a>>
     })
 }
 
-// The first number is how much room there is for the command.
+// The first number is how much room the command has.
 pub(crate) fn command_again<'a>(call: Call, bytes: &'a mut [u8]) -> Option<Answer<'a>> {
     if call.first > bytes.len() {
         return None;
@@ -88,7 +88,7 @@ pub(crate) fn command_again<'a>(call: Call, bytes: &'a mut [u8]) -> Option<Answe
     Some(Answer::Wrote(report, bytes))
 }
 
-// Here the second number is it.
+// The first number is the command code, the second how much room the response has.
 pub(crate) fn response_again<'a>(call: Call, bytes: &'a mut [u8]) -> Option<Answer<'a>> {
     let cc = call.code()?;
     if call.second > bytes.len() {

@@ -1,5 +1,5 @@
-// The rules that a line names by words behind its numbers: `standard` is the standard reading, else it is the Rust's; behind it `1.38` or
-// `1.59` is the table of that revision, else it is the crate's.
+// The rules that a line names by words behind its numbers: `standard` is the standard reading, else it is the Rust's;
+// behind it `1.38` or `1.59` is the table of that revision, else it is the crate's.
 ghost use Rattle.std.specs.Prelude.{◌<◌};
 
 use frame::rules::{Reading, Rules};
