@@ -33,18 +33,14 @@ pub extern "C" fn skein_rc_read(rc: u32, out: &mut Numbers) -> u32
     report(rc::code::read(TpmRc(rc)), out)
 }
 
-#[tactic(auto, unfolding(crate::specs::Code::kind_numbered))]
+// The kind that C's number names.
+#[tactic(auto, using(crate::proofs::Numbered::no_kind))]
 fn kind_named(number: u32) -> Result<Kind, Unknown>
     ensures { named result ≡ kind_numbered number }
 {
-    match number {
-        0 => Ok(Kind::Fmt0),
-        1 => Ok(Kind::Warn),
-        2 => Ok(Kind::Fmt1),
-        3 => Ok(Kind::Parameter),
-        4 => Ok(Kind::Handle),
-        5 => Ok(Kind::Session),
-        _ => Err(Unknown::Kind(number)),
+    match Kind::try_from(number) {
+        Ok(kind) => Ok(kind),
+        Err(_) => Err(Unknown::Kind(number)),
     }
 }
 

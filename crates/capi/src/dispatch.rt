@@ -1,7 +1,6 @@
 // The dispatch table and the tags, of crate table.
 ghost use Rattle.base.specs.Members.{is_in};
 ghost use Rattle.base.specs.Said.{gives};
-ghost use Rattle.table.specs.declared.row.Row.{Row};
 ghost use Rattle.table.specs.Dispatch.{codes_of, table_of};
 ghost use Rattle.table.specs.Table.{row_for};
 ghost use Rattle.table.specs.Tags.{tags};
@@ -9,31 +8,25 @@ ghost use Rattle.capi.specs.Frame.{handle_counts};
 ghost use Rattle.capi.specs.Out.{Reports, truth};
 ghost use Rattle.capi.specs.Rules.{at_table};
 
-use crate::out::{Answer, Numbers, Refused, give, report};
+use crate::out::{Numbers, Refused, give, report};
 use crate::rules::revision_named;
 use base::code::{TpmCc, TpmSt};
-use table::row::Row;
 
-impl Answer for Row {
-    ghost Told = { Row };
-
-    ghost told = { λ r. r };
-
-    ghost numbers = { handle_counts };
-
-    fn store(self, out: &mut Numbers) {
-        out[0] = self.handles as u64;
-        out[1] = self.responses as u64;
-    }
-}
-
-// The handles and the response handles of a command's row.
+// The handles and the response handles of a command's row. It is matched on here: `report` would take it by value, and the two be shifted out
+// of it, four instructions more.
 #[unsafe(no_mangle)]
 pub extern "C" fn skein_table_find(revision: u32, cc: u32, out: &mut Numbers) -> u32
     ensures { Reports handle_counts (at_table revision λ table. row_for (table_of table) cc) out.old out.new result }
 {
     match revision_named(revision) {
-        Ok(table) => report(table::dispatch::find(table, TpmCc(cc)), out),
+        Ok(table) => match table::dispatch::find(table, TpmCc(cc)) {
+            Ok(row) => {
+                out[0] = row.handles as u64;
+                out[1] = row.responses as u64;
+                0
+            }
+            Err(e) => e.store(out),
+        },
         Err(unknown) => unknown.store(out),
     }
 }

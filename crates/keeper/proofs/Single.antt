@@ -16,6 +16,8 @@ use Rattle.keeper.specs.declared.refusal.Refusal.{Refusal}
 use Rattle.keeper.specs.declared.refusal.Refusal.TheVariants as refusal
 use Rattle.keeper.specs.Keeper.{handle_repeated, counts_differ, already_open, all_open, not_open}
 use Rattle.keeper.specs.Refusal.{numbered, said_done, said_asked}
+use Rattle.keeper.proofs.refusal.RefusalFromTpmError.from.Kinds as refusal-from-kinds
+use Rattle.keeper.proofs.refusal.RefusalFromTpmError.from.Reads as refusal-from-reads
 use Rattle.keeper.proofs.session.new.Kinds as new-kinds
 use Rattle.keeper.proofs.session.new.Reads as new-reads
 use Rattle.keeper.proofs.session.len.Kinds as len-kinds
@@ -63,6 +65,9 @@ said_asked_injective =
     said_by_injective (λ p. record { from = p.from; to = p.to }) numbered (λ p. record { from = p.from; to = p.to }) refusal_of (λ p. refl) told_refusal
 
 -- ---- the calls
+
+refusal_from : Single 0 refusal-from-kinds.ps refusal-from-kinds.r refusal-from-reads.Post
+refusal_from κs a x y v w p q = (p ∙ sym q, refl)
 
 session_new : Single 1 new-kinds.ps new-kinds.r new-reads.Post
 session_new κs a x y v w p q = (refl, λ i. ((p ∙ sym q) i, tt))
