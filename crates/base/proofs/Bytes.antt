@@ -91,13 +91,6 @@ one_byte n h =
     let p : n ≡ (n / 1) % 256 = omega arith in
     λ i. p i ∷ []
 
-pub two_bytes : (n : ℕ) → n < 65536 → n / 256 ∷ n % 256 ∷ [] ≡ bytes 2 n
-unfolding bytes
-two_bytes n h =
-    let p : n / 256 ≡ (n / 256) % 256 = omega arith in
-    let q : n % 256 ≡ (n / 1) % 256 = omega arith in
-    λ i. p i ∷ q i ∷ []
-
 pub four_bytes : (n : ℕ) → n < 4294967296 → n / 16777216 ∷ n / 65536 % 256 ∷ n / 256 % 256 ∷ n % 256 ∷ [] ≡ bytes 4 n
 unfolding bytes
 four_bytes n h =
