@@ -3,7 +3,7 @@
 use mathlib.Core.Path.{◌≡◌, refl, sym, ◌∙◌, ap}
 use mathlib.Core.Bool.{Bool, true, false, cond}
 use mathlib.Core.List.{List, [], ◌∷◌, ◌++◌, append_assoc, append-nil}
-use Prim.Native.Nat.{ℕ, ◌+◌, ◌≤◌}
+use Prim.Native.Nat.{ℕ, ◌+◌, ◌-◌, ◌≤◌}
 use native.Mathlib.Omega.{arith}
 use borrow.Author.Tests.{ne_eqb}
 use lib.Dec.{eqb}
@@ -14,12 +14,15 @@ use Rattle.base.proofs.Bytes.{length_bytes}
 use Rattle.frame.specs.Header.{plain, sessions, rsp_command}
 use Rattle.frame.specs.Layout.{Entry, layout_entry, layout_entries, size_field, layout_body, layout_frame, layout_command, layout_response}
 use Rattle.frame.proofs.FrameLaws.{length_frame}
-use Rattle.frame.specs.Parts.{entries_of}
+use Rattle.frame.specs.declared.session.Session.{Session}
+use Rattle.frame.specs.Parts.{entries_in, entries_of}
+use Rattle.frame.specs.Rules.{unlimited}
 use Rattle.marshal.specs.Handed.{Handed, entries_handed, without_handles, tag_for, command_frame, success_frame, error_tag, error_frame}
 use Rattle.base.specs.Field.{laid}
 use Rattle.marshal.specs.Laid.{Puts}
-use Rattle.marshal.specs.Write.{sessions_there, total_size}
+use Rattle.marshal.specs.Write.{Ready, sessions_there, total_size}
 use Rattle.marshal.proofs.Lengths.{length_sessions}
+use Rattle.marshal.proofs.Sessions.{entries_none}
 use Rattle.marshal.proofs.Rooms.{room_first, room_next, puts_next}
 
 -- ---- how long a frame is
@@ -76,6 +79,19 @@ module _ (limit : ℕ) (h : Handed) (there : sessions_there limit (length h.lent
       ∙ length_frame tag 0 (layout_body tag h.handles h.parameters (layout_entries 0 (entries_handed h)))
       ∙ sym (success_total tag)
 
+-- so what was judged is as long as what is laid out
+pub command_whole : (tag : ℕ) (h : Handed) {total room : ℕ} → Ready 4 tag h total room
+    → total ≡ 10 + length (layout_body tag h.handles (layout_entries 4 (entries_handed h)) h.parameters)
+command_whole tag h ready = ready.total_is ∙ command_total unlimited h ready.there tag
+
+pub success_whole : (tag : ℕ) (h : Handed) {total room : ℕ} → Ready 0 tag h total room
+    → total ≡ 10 + length (layout_body tag h.handles h.parameters (layout_entries 0 (entries_handed h)))
+success_whole tag h ready = ready.total_is ∙ success_total unlimited h ready.there tag
+
+-- without a session there are no bytes of entries
+pub no_entry_bytes : (width : ℕ) (h : Handed) → h.sessions.count ≡ 0 → layout_entries width (entries_handed h) ≡ []
+no_entry_bytes width h none = ap (λ (es : List Session). layout_entries width (entries_in h.lent es)) (entries_none h.sessions none)
+
 -- ---- the tag tells whether there is a size
 
 module _ {tag count : ℕ} (is : tag ≡ tag_for count) where
@@ -112,9 +128,6 @@ module _ (tag code total : ℕ) (handles sized rest room : List ℕ)
       let both = length-append (header_of tag total code) body in
       let ten = length_header tag total code in
       omega arith
-
-  pub header_room : 10 ≤ length room
-  header_room = omega arith
 
   module _ {at : ℕ} {headed : List ℕ} (header : Puts 0 (header_of tag total code) room at headed) where
     body_room : at + length body ≤ length headed
@@ -156,6 +169,9 @@ module _ (tag code total : ℕ) (handles sized rest room : List ℕ)
             let four : ◌≡◌ {A = ℕ} (cond (eqb tag sessions) 4 0) 4 = rw signed in
             let long = length_body tag handles sized rest in
             omega arith
+
+        pub size_is : total - (behind + 4 + length rest) ≡ length sized
+        size_is = let sum = sizes in omega arith
 
         sized_fits : behind + length (bytes 4 (length sized) ++ (sized ++ rest)) ≤ length handled
         sized_fits = rw signed at rest_room

@@ -1,11 +1,10 @@
 -- How many bytes entries and frames take, and where the sessions' bytes are.
 -- Assumes nothing.
-use mathlib.Core.Path.{◌≡◌, refl, sym, ◌∙◌}
+use mathlib.Core.Path.{◌≡◌, refl, ◌∙◌}
 use mathlib.Core.List.{List, [], ◌∷◌}
-use mathlib.Core.Bool.{Bool, true, false}
-use Prim.Native.Nat.{ℕ, ◌+◌, ◌-◌, ◌≤◌, ◌<◌}
+use Prim.Native.Nat.{ℕ, ◌+◌, ◌≤◌}
 use native.Mathlib.Omega.{arith}
-use borrow.Author.Tests.{le-leb, lt-leb, leb-true, leb-false}
+use borrow.Author.Tests.{le-leb, leb-true}
 use lib.Dec.{leb}
 use lib.ListN.{length, length-append}
 use Rattle.base.specs.Said.{gives}
@@ -18,17 +17,6 @@ use Rattle.frame.specs.Parts.{field_in, Kept, EachField, entry_in, entries_in}
 use Rattle.frame.proofs.EntryLaws.{length_entry}
 use Rattle.frame.proofs.WalkLaws.{each_field}
 use Rattle.marshal.specs.Write.{field_there, session_there, sessions_there, entry_length, entries_length}
-
--- a position within the bytes, and what is left behind it, tell whether their sum is within; one past the end is not
-pub sum_inside : (place size len : ℕ) → place ≤ len → leb size (len - place) ≡ leb (place + size) len
-sum_inside place size len h = by (leb size (len - place)) refl
-  where
-    by : (b : Bool) → leb size (len - place) ≡ b → b ≡ leb (place + size) len
-    by true e = let fits = leb-true size (len - place) e in sym (le-leb (place + size) len (omega arith))
-    by false e = let short = leb-false size (len - place) e in sym (lt-leb (place + size) len (omega arith))
-
-pub past : (place size len : ℕ) → len < place → leb place len ≡ leb (place + size) len
-past place size len h = lt-leb place len h ∙ sym (lt-leb (place + size) len (omega arith))
 
 module _ (limit : ℕ) where
   -- the check of a field says just that it is kept

@@ -3,10 +3,10 @@
 use mathlib.Core.Path.{◌≡◌, refl, sym, ◌∙◌, ap}
 use mathlib.Core.List.{List, [], ◌∷◌, ◌++◌, append_assoc}
 use Prim.Native.Nat.{ℕ, ◌+◌, ◌≤◌, ◌<◌}
-use native.Mathlib.Nat.{add-zero, zero-add}
+use native.Mathlib.Nat.{zero-add}
 use native.Mathlib.Numerals.{add-one}
 use native.Mathlib.Omega.{arith}
-use lib.ListN.{length, take, drop, set, length-append, take-append-drop}
+use lib.ListN.{length, take, drop, set, length-append}
 use lib.Seq.{take_at, drop-drop, length-take-le, drop-append-add, set_split}
 use mir.Syntax.{w16, w32}
 use Rattle.std.specs.Int.{to_be_bytes}
@@ -15,10 +15,6 @@ use Rattle.base.specs.Field.{laid}
 use Rattle.base.proofs.Bytes.{two_big_endian, four_big_endian}
 use Rattle.base.proofs.Laid.{length_laid}
 use Rattle.marshal.specs.Laid.{Puts}
-
--- nothing laid is nothing changed
-pub laid_none : (place : ℕ) (s : List ℕ) → laid place [] s ≡ s
-laid_none place s = ap (λ (n : ℕ). take place s ++ drop n s) (add-zero place) ∙ take-append-drop place s
 
 -- what is laid behind what was laid is laid with it
 pub laid_next : (place : ℕ) (x y s : List ℕ) {later : ℕ} → later ≡ place + length x → place + length x + length y ≤ length s
@@ -73,6 +69,3 @@ module _ (place : ℕ) (x y s : List ℕ) (fits : place + length (x ++ y) ≤ le
         next_is = omega arith;
         later_is = q.later_is ∙ ap (laid next y) p.later_is ∙ laid_next place x y s p.next_is (omega arith);
       }
-
-pub puts_none : (place : ℕ) (s : List ℕ) → Puts place [] s place s
-puts_none place s = record { next_is = sym (add-zero place); later_is = sym (laid_none place s) }

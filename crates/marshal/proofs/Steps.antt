@@ -52,10 +52,6 @@ module _ (e : Entry) (place : ℕ) (room : List ℕ) (fits : place + length (lay
   pub byte_room : next < length later
   byte_room = let rest = rest_room in omega arith
 
-  pub hmac_room : next + 1 + length (tpm2b e.hmac) ≤ length (set later next e.attributes)
-  hmac_room =
-      room_next next (e.attributes ∷ []) (tpm2b e.hmac) later rest_room (puts_byte next e.attributes later byte_room)
-
   pub signed_put : {end : ℕ} {last : List ℕ} → Puts (next + 1) (tpm2b e.hmac) (set later next e.attributes) end last
       → Puts place (layout_signed e) room end last
   signed_put p =
@@ -87,22 +83,15 @@ module _ (width : ℕ) (lent : List ℕ) where
         entries_put q = puts_next place (session_laid e) (sessions_laid es) room fits p q
 
 -- the header: tag, size and code
-module _ (tag size code : ℕ) (room : List ℕ) (ten : 10 ≤ length room) {next : ℕ} {later : List ℕ} (first : Puts 0 (bytes 2 tag) room next later) where
-  header_room : 0 + length (bytes 2 tag ++ (bytes 4 size ++ bytes 4 code)) ≤ length room
+module _ (place tag size code : ℕ) (room : List ℕ) (ten : place + 10 ≤ length room) {next : ℕ} {later : List ℕ} (first : Puts place (bytes 2 tag) room next later) where
+  header_room : place + length (bytes 2 tag ++ (bytes 4 size ++ bytes 4 code)) ≤ length room
   header_room = simp (length-append, length_bytes) ten
 
   rest_of_header : next + length (bytes 4 size ++ bytes 4 code) ≤ length later
-  rest_of_header = room_next 0 (bytes 2 tag) (bytes 4 size ++ bytes 4 code) room header_room first
+  rest_of_header = room_next place (bytes 2 tag) (bytes 4 size ++ bytes 4 code) room header_room first
 
-  pub size_room : next + 4 ≤ length later
-  size_room = field_room 4 next size (bytes 4 code) later rest_of_header
-
-  module _ {place : ℕ} {last : List ℕ} (second : Puts next (bytes 4 size) later place last) where
-    pub code_room : place + 4 ≤ length last
-    code_room = rw length_bytes at (room_next next (bytes 4 size) (bytes 4 code) later rest_of_header second)
-
-    pub header_put : {end : ℕ} {whole : List ℕ} → Puts place (bytes 4 code) last end whole
-        → Puts 0 (bytes 2 tag ++ (bytes 4 size ++ bytes 4 code)) room end whole
-    header_put third =
-        puts_next 0 (bytes 2 tag) (bytes 4 size ++ bytes 4 code) room header_room first
-        (puts_next next (bytes 4 size) (bytes 4 code) later rest_of_header second third)
+  pub header_put : {middle end : ℕ} {last whole : List ℕ} → Puts next (bytes 4 size) later middle last → Puts middle (bytes 4 code) last end whole
+      → Puts place (bytes 2 tag ++ (bytes 4 size ++ bytes 4 code)) room end whole
+  header_put second third =
+      puts_next place (bytes 2 tag) (bytes 4 size ++ bytes 4 code) room header_room first
+      (puts_next next (bytes 4 size) (bytes 4 code) later rest_of_header second third)

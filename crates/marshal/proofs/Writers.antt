@@ -288,9 +288,6 @@ module _ (code : ℕ) where
   pub reads_success : code ≡ 0 → (given (read_code code) || eqb code bad_tag) ≡ true
   reads_success zero = reads_known (ap (λ (n : ℕ). given (read_code n)) zero ∙ success_reads)
 
-  pub reads_neither : given (read_code code) ≡ false → (code ≡ bad_tag → ⊥) → (given (read_code code) || eqb code bad_tag) ≡ false
-  reads_neither unknown other = ap (λ (b : Bool). b || eqb code bad_tag) unknown ∙ ne_eqb code bad_tag other
-
 -- the codes that a bare header is written with
 abbrev pub Errs : Bool → ℕ → Type 0
 Errs true code = code ≡ bad_tag

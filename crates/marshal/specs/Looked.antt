@@ -4,6 +4,8 @@ use Rattle.std.specs.Prelude.{ℕ, ◌-◌, ◌*◌, cond, [], ◌∷◌, leb, R
 use Rattle.base.specs.Answer.{said_by}
 use Rattle.base.specs.Said.{Why, no_area, Said, gives, needs}
 use Rattle.marshal.specs.declared.total.Missing.{Missing}
+use Rattle.marshal.specs.declared.total.Parts.{Parts}
+use Rattle.marshal.specs.Handed.{Handed, handed}
 use Rattle.marshal.specs.Write.{capped, fitted}
 
 module _ (limit len : ℕ) where
@@ -24,3 +26,7 @@ handles_there handles len =
 -- a total that its field holds and that there is room for
 abbrev pub sized : ℕ → ℕ → Said ℕ
 sized total room = needs (leb total 4294967295) (no_area (7 ∷ 0 ∷ capped total ∷ [])) (fitted total room)
+
+-- the parts, as they are lent
+abbrev pub handed_parts : Parts → Handed
+handed_parts parts = handed parts.handles.now parts.sessions.now parts.lent.now parts.parameters.now

@@ -42,10 +42,6 @@ abbrev pub entries_length : ℕ → List Session → ℕ
 entries_length width [] = 0
 entries_length width (e ∷ es) = entry_length width e + entries_length width es
 
--- how long the entries are, where all that they name is there
-abbrev pub entries_said : ℕ → ℕ → ℕ → List Session → Said ℕ
-entries_said limit width len es = then (sessions_there limit len es) λ there. gives (entries_length width es)
-
 -- "Total size is 10 + handles + 4 under 0x8002 + entries + parameters"
 abbrev pub total_size : ℕ → ℕ → Handed → ℕ
 total_size width tag h =

@@ -1,5 +1,5 @@
-// What writes: each puts its bytes at a place of lent room, answers the place behind them, and asks that there is room for them,
-// which the writers have judged before the first byte.
+// What writes: a cursor stands at a place of lent room. Each call puts its bytes there and goes behind them, and asks that there is room
+// for them, which the writers have judged before the first byte. An entry is inlined by the hint alone: else its record goes by memory.
 ghost use Rattle.std.specs.Prelude.{◌≡◌, ◌++◌, ◌+◌, ◌≤◌, length};
 ghost use Rattle.base.specs.Bytes.{bytes};
 ghost use Rattle.base.specs.Said.{gives};
@@ -8,88 +8,99 @@ ghost use Rattle.frame.specs.Answer.{handle_width};
 ghost use Rattle.frame.specs.Layout.{layout_entries, layout_entry};
 ghost use Rattle.frame.specs.Parts.{entries_in, entries_of, entry_in, field_in};
 ghost use Rattle.frame.specs.Rules.{unlimited};
-ghost use Rattle.marshal.specs.Laid.{Puts, layout_signed};
+ghost use Rattle.marshal.specs.Laid.{Put, RoomFor, layout_signed};
 ghost use Rattle.marshal.specs.Write.{field_there, session_there, sessions_there};
 
 use base::field::write_bytes;
 use frame::session::{Entries, Field, Session};
 
-// Copies all of t.
-pub(crate) fn put(t: &[u8], place: usize, room: &mut [u8]) -> usize
-    requires { place + length t.now ≤ length room.old }
-    ensures { Puts place t.now room.old result room.new }
-{
-    let _ = write_bytes(room, place, t);
-    place + t.len()
+#[derive(Drop)]
+pub(crate) struct Cursor<'a> {
+    pub(crate) room: &'a mut [u8],
+    pub(crate) at: usize,
 }
 
-// A nonce or an HMAC of the lent session bytes, as a TPM2B.
-fn put_tpm2b(f: Field, lent: &[u8], place: usize, room: &mut [u8]) -> usize
-    requires f_value { field_there unlimited (length lent.now) f ≡ gives tt }
-    requires f_in_bounds { place + length (tpm2b (field_in lent.now f)) ≤ length room.old }
-    ensures { Puts place (tpm2b (field_in lent.now f)) room.old result room.new }
-{
-    let from = f.at;
-    let to = from + f.size as usize;
-    let data = put(&f.size.to_be_bytes(), place, room);
-    put(&lent[from..to], data, room)
-}
-
-// What every entry has: nonce, attribute byte and HMAC.
-fn put_signed(e: Session, lent: &[u8], place: usize, room: &mut [u8]) -> usize
-    requires e_value { session_there unlimited (length lent.now) e ≡ gives tt }
-    requires e_in_bounds { place + length (layout_signed (entry_in lent.now e)) ≤ length room.old }
-    ensures { Puts place (layout_signed (entry_in lent.now e)) room.old result room.new }
-{
-    let attributes = put_tpm2b(e.nonce, lent, place, room);
-    room[attributes] = e.attributes;
-    put_tpm2b(e.hmac, lent, attributes + 1, room)
-}
-
-// An entry, with a handle before it in a command.
-fn put_entry(command: bool, e: Session, lent: &[u8], place: usize, room: &mut [u8]) -> usize
-    requires e_value { session_there unlimited (length lent.now) e ≡ gives tt }
-    requires e_in_bounds { place + length (layout_entry (handle_width command) (entry_in lent.now e)) ≤ length room.old }
-    ensures { Puts place (layout_entry (handle_width command) (entry_in lent.now e)) room.old result room.new }
-{
-    if command {
-        let behind = put(&e.handle.to_be_bytes(), place, room);
-        return put_signed(e, lent, behind, room);
+impl Cursor<'_> {
+    // Copies all of t.
+    pub(crate) fn put(&mut self, t: &[u8])
+        requires { RoomFor t.now self.old }
+        ensures same_reference { self.new.room.ghost_name ≡ self.old.room.ghost_name }
+        ensures puts { Put t.now self.old self.new }
+    {
+        let _ = write_bytes(self.room, self.at, t);
+        self.at += t.len();
     }
-    put_signed(e, lent, place, room)
-}
 
-// The entries of all sessions.
-pub(crate) fn put_entries(
-    command: bool,
-    es: Entries,
-    lent: &[u8],
-    place: usize,
-    room: &mut [u8],
-) -> usize
-    requires es_value { sessions_there unlimited (length lent.now) (entries_of es) ≡ gives tt }
-    requires es_in_bounds { place + length (layout_entries (handle_width command) (entries_in lent.now (entries_of es))) ≤ length room.old }
-    ensures { Puts place (layout_entries (handle_width command) (entries_in lent.now (entries_of es))) room.old result room.new }
-{
-    if es.count == 0 {
-        return place;
+    // A nonce or an HMAC of the lent session bytes, as a TPM2B.
+    fn put_tpm2b(&mut self, f: Field, lent: &[u8])
+        requires f_value { field_there unlimited (length lent.now) f ≡ gives tt }
+        requires f_in_bounds { RoomFor (tpm2b (field_in lent.now f)) self.old }
+        ensures same_reference { self.new.room.ghost_name ≡ self.old.room.ghost_name }
+        ensures puts { Put (tpm2b (field_in lent.now f)) self.old self.new }
+    {
+        self.put(&f.size.to_be_bytes());
+        self.put(&lent[f.at..f.at + f.size as usize]);
     }
-    let first = put_entry(command, es.first, lent, place, room);
-    if es.count == 1 {
-        return first;
-    }
-    let second = put_entry(command, es.second, lent, first, room);
-    if es.count == 2 {
-        return second;
-    }
-    put_entry(command, es.third, lent, second, room)
-}
 
-pub(crate) fn put_header(tag: u16, total: u32, code: u32, room: &mut [u8]) -> usize
-    requires { 10 ≤ length room.old }
-    ensures { Puts 0 (bytes 2 tag ++ (bytes 4 total ++ bytes 4 code)) room.old result room.new }
-{
-    let size = put(&tag.to_be_bytes(), 0, room);
-    let at = put(&total.to_be_bytes(), size, room);
-    put(&code.to_be_bytes(), at, room)
+    // What every entry has: nonce, attribute byte and HMAC.
+    #[inline]
+    fn put_signed(&mut self, e: Session, lent: &[u8])
+        requires e_value { session_there unlimited (length lent.now) e ≡ gives tt }
+        requires e_in_bounds { RoomFor (layout_signed (entry_in lent.now e)) self.old }
+        ensures same_reference { self.new.room.ghost_name ≡ self.old.room.ghost_name }
+        ensures puts { Put (layout_signed (entry_in lent.now e)) self.old self.new }
+    {
+        self.put_tpm2b(e.nonce, lent);
+        self.room[self.at] = e.attributes;
+        self.at += 1;
+        self.put_tpm2b(e.hmac, lent);
+    }
+
+    // An entry, with a handle before it in a command.
+    #[inline]
+    fn put_entry(&mut self, command: bool, e: Session, lent: &[u8])
+        requires e_value { session_there unlimited (length lent.now) e ≡ gives tt }
+        requires e_in_bounds { RoomFor (layout_entry (handle_width command) (entry_in lent.now e)) self.old }
+        ensures same_reference { self.new.room.ghost_name ≡ self.old.room.ghost_name }
+        ensures puts { Put (layout_entry (handle_width command) (entry_in lent.now e)) self.old self.new }
+    {
+        if command {
+            self.put(&e.handle.to_be_bytes());
+            self.put_signed(e, lent);
+            return;
+        }
+        self.put_signed(e, lent);
+    }
+
+    // The entries of all sessions.
+    pub(crate) fn put_entries(&mut self, command: bool, es: Entries, lent: &[u8])
+        requires es_value { sessions_there unlimited (length lent.now) (entries_of es) ≡ gives tt }
+        requires es_in_bounds { RoomFor (layout_entries (handle_width command) (entries_in lent.now (entries_of es))) self.old }
+        ensures same_reference { self.new.room.ghost_name ≡ self.old.room.ghost_name }
+        ensures puts { Put (layout_entries (handle_width command) (entries_in lent.now (entries_of es))) self.old self.new }
+    {
+        if es.count == 0 {
+            return;
+        }
+        self.put_entry(command, es.first, lent);
+        if es.count == 1 {
+            return;
+        }
+        self.put_entry(command, es.second, lent);
+        if es.count == 2 {
+            return;
+        }
+        self.put_entry(command, es.third, lent);
+    }
+
+    // A header.
+    pub(crate) fn put_header(&mut self, tag: u16, total: u32, code: u32)
+        requires { self.old.at + 10 ≤ length self.old.room.now }
+        ensures same_reference { self.new.room.ghost_name ≡ self.old.room.ghost_name }
+        ensures puts { Put (bytes 2 tag ++ (bytes 4 total ++ bytes 4 code)) self.old self.new }
+    {
+        self.put(&tag.to_be_bytes());
+        self.put(&total.to_be_bytes());
+        self.put(&code.to_be_bytes());
+    }
 }

@@ -7,13 +7,14 @@ ghost use Rattle.frame.specs.Header.{bad_tag};
 ghost use Rattle.frame.specs.Layout.{layout_response};
 ghost use Rattle.marshal.specs.Handed.{error_tag, handed, success_frame, tag_for};
 ghost use Rattle.marshal.specs.Mode.{asked, book_for};
+ghost use Rattle.marshal.specs.Looked.{handed_parts};
 ghost use Rattle.base.specs.Field.{laid};
 ghost use Rattle.marshal.specs.Write.{Ready, counted, room_after, write_bad_tag, write_error, write_response};
 
 use crate::mode::{ResponseRules, asks_bad_tag, rules_for};
-use crate::put::{put, put_entries, put_header};
+use crate::put::Cursor;
 use crate::total::{
-    entries_length, fits, found, judge_handles, judge_total, look, tag_for, too_many,
+    Parts, entries_length, fits, found, judge_handles, judge_total, look, tag_for, too_many,
 };
 use base::code::{TpmCc, TpmRc, TpmSt};
 use base::error::{Area, WriteError};
@@ -74,60 +75,52 @@ fn judge_response(
     rules: ResponseRules,
     rc: TpmRc,
     cc: TpmCc,
-    handles: &[u8],
-    sessions: Entries,
-    lent: &[u8],
-    parameters: &[u8],
+    parts: Parts,
     room: usize,
 ) -> Result<usize, WriteError>
-    ensures { said_total result ≡ counted (write_response (book_for rules) (asked rules) cc.0 rc.0 (handed handles.now sessions lent.now parameters.now) room) }
+    ensures { said_total result ≡ counted (write_response (book_for rules) (asked rules) cc.0 rc.0 (handed_parts parts.entry) room) }
 {
-    if MAX_SESSIONS < sessions.count {
-        return Err(too_many(sessions.count).into());
+    if MAX_SESSIONS < parts.sessions.count {
+        return Err(too_many(parts.sessions.count).into());
     }
     let row = find(rules.revision, cc)?;
     if asks_bad_tag(rules) {
-        return judge_bad_tag(rc, sessions.count, room);
+        return judge_bad_tag(rc, parts.sessions.count, room);
     }
     if rc.0 != 0 {
-        return judge_error(rc, sessions.count, room);
+        return judge_error(rc, parts.sessions.count, room);
     }
+    judge_handles(row.responses, parts.handles.len())?;
     let limit = longest(rules_for(rules));
-    // Before the handles are judged: LLVM takes what comes behind so many tests for cold, and hands the record over in place of inlining.
-    let looked = look(limit, sessions, lent.len());
-    let entries = entries_length(false, sessions);
-    judge_handles(row.responses, handles.len())?;
-    found(limit, lent.len(), looked)?;
+    found(
+        limit,
+        parts.lent.len(),
+        look(limit, *parts.sessions, parts.lent.len()),
+    )?;
     judge_total(
-        tag_for(sessions.count),
-        handles.len(),
-        entries,
-        parameters.len(),
+        tag_for(parts.sessions.count),
+        parts.handles.len(),
+        entries_length(false, *parts.sessions),
+        parts.parameters.len(),
         room,
     )
 }
 
 // Lays out a success response that was judged.
-fn lay_success(
-    handles: &[u8],
-    sessions: Entries,
-    lent: &[u8],
-    parameters: &[u8],
-    total: usize,
-    room: &mut [u8],
-)
-    requires { Ready 0 (tag_for sessions.count) (handed handles.now sessions lent.now parameters.now) total (length room.old) }
-    ensures { room.new ≡ laid 0 (layout_response (success_frame (handed handles.now sessions lent.now parameters.now))) room.old }
+fn lay_success(parts: Parts, total: usize, room: &mut [u8])
+    requires { Ready 0 (tag_for parts.sessions.now.count) (handed_parts parts) total (length room.old) }
+    ensures { room.new ≡ laid 0 (layout_response (success_frame (handed_parts parts.entry))) room.old }
 {
-    let at = put_header(tag_for(sessions.count), total as u32, 0, room);
-    let behind = put(handles, at, room);
-    if sessions.count == 0 {
-        put(parameters, behind, room);
+    let mut out = Cursor { room, at: 0 };
+    out.put_header(tag_for(parts.sessions.count), total as u32, 0);
+    out.put(parts.handles);
+    if parts.sessions.count == 0 {
+        out.put(parts.parameters);
         return;
     }
-    let from = put(&(parameters.len() as u32).to_be_bytes(), behind, room);
-    let to = put(parameters, from, room);
-    put_entries(false, sessions, lent, to, room);
+    out.put(&(parts.parameters.len() as u32).to_be_bytes());
+    out.put(parts.parameters);
+    out.put_entries(false, *parts.sessions, parts.lent);
 }
 
 // Writes a response to the command of a code to the start of the room, and answers how many bytes it has. Nothing is written
@@ -145,20 +138,18 @@ pub fn write(
     ensures answer { said_total result ≡ counted (write_response (book_for rules) (asked rules) cc.0 rc.0 (handed handles.now sessions lent.now parameters.now) (length room.old)) }
     ensures bytes { room.new ≡ room_after room.old (write_response (book_for rules) (asked rules) cc.0 rc.0 (handed handles.now sessions lent.now parameters.now) (length room.old)) }
 {
-    let total = judge_response(
-        rules,
-        rc,
-        cc,
+    let parts = Parts {
         handles,
-        sessions,
+        sessions: &sessions,
         lent,
         parameters,
-        room.len(),
-    )?;
+    };
+    let total = judge_response(rules, rc, cc, parts, room.len())?;
     if rc.0 == 0 {
-        lay_success(handles, sessions, lent, parameters, total, room);
+        lay_success(parts, total, room);
     } else {
-        put_header(error_tag(rules), HEADER_SIZE as u32, rc.0, room);
+        let mut out = Cursor { room, at: 0 };
+        out.put_header(error_tag(rules), HEADER_SIZE as u32, rc.0);
     }
     Ok(total)
 }

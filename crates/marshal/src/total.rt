@@ -8,12 +8,21 @@ ghost use Rattle.frame.specs.Header.{sessions};
 ghost use Rattle.frame.specs.Parts.{entries_of};
 ghost use Rattle.marshal.specs.Handed.{Handed, tag_for};
 ghost use Rattle.marshal.specs.Looked.{handles_there, said_looked, sized, why_not};
-ghost use Rattle.marshal.specs.Write.{capped, entries_length, entries_said, entry_length, field_there, fitted, judged, session_there, sessions_there};
+ghost use Rattle.marshal.specs.Write.{capped, entries_length, entry_length, field_there, fitted, judged, session_there, sessions_there};
 
 use base::error::{Area, TpmError, WriteError};
 use base::field::left;
 use frame::header::{HEADER_SIZE, PLAIN, SESSIONS};
 use frame::session::{Entries, Field, MAX_SESSIONS, Session};
+
+// What is handed to a writer beside the tag and the codes.
+#[derive(Clone, Copy)]
+pub(crate) struct Parts<'a> {
+    pub(crate) handles: &'a [u8],
+    pub(crate) sessions: &'a Entries,
+    pub(crate) lent: &'a [u8],
+    pub(crate) parameters: &'a [u8],
+}
 
 // The largest total that a size field holds.
 const LARGEST_SIZE: usize = 4294967295;
@@ -107,7 +116,7 @@ fn look_at_both(limit: usize, e: Session, lent: usize) -> Result<(), Missing>
     look_at(limit, e.hmac, lent)
 }
 
-// Looks at the sessions in their order, for nonces and HMACs of at most so many bytes, in so many lent bytes. Inlined, or the record is copied.
+// Looks at the sessions in their order, for nonces and HMACs of at most so many bytes, in so many lent bytes.
 #[inline(always)]
 pub(crate) fn look(limit: usize, es: Entries, lent: usize) -> Result<(), Missing>
     ensures { said_looked limit lent result ≡ sessions_there limit lent (entries_of es) }
@@ -128,16 +137,18 @@ pub(crate) fn look(limit: usize, es: Entries, lent: usize) -> Result<(), Missing
 
 // The bytes that the entry of a session takes.
 fn entry_length(command: bool, e: Session) -> usize
-    ensures { result ≡ entry_length (handle_width command) e }
+    ensures value { result ≡ entry_length (handle_width command) e }
+    ensures few { result ≤ 131079 }
 {
     let signed = 5 + e.nonce.size as usize + e.hmac.size as usize;
     if command { 4 + signed } else { signed }
 }
 
-// The bytes that the entries take. Inlined, as `look` is.
+// The bytes that the entries take.
 #[inline(always)]
 pub(crate) fn entries_length(command: bool, es: Entries) -> usize
-    ensures { result ≡ entries_length (handle_width command) (entries_of es) }
+    ensures value { result ≡ entries_length (handle_width command) (entries_of es) }
+    ensures few { result ≤ 393237 }
 {
     if es.count == 0 {
         return 0;

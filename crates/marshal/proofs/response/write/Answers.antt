@@ -10,6 +10,7 @@ use Rattle.base.specs.Field.{laid}
 use Rattle.marshal.specs.Mode.{reading_of, asked, book_for}
 use Rattle.marshal.proofs.Frames.{header_of, error_layout}
 use Rattle.marshal.proofs.Writers.{success_ready, error_ready, room_written}
+use Rattle.std.proofs.Common.{rules}
 use Rattle.marshal.proofs.response.write.Goals as goal
 
 pub lay_success-requires : goal.lay_success-requires
@@ -37,7 +38,8 @@ returns-else-rc-eq0-clause-bytes c =
     let h = handed a.handles.now a.sessions a.lent.now a.parameters.now in
     let said = c.in_ok-total.ensures in
     let put =
-    c.put_header.ensures.later_is
+    c.put_header.ensures.puts.later_is
     ∙ ap (λ (tag : ℕ). laid 0 (header_of tag 10 a.rc.0) a.room.now) c.error_tag.ensures
     ∙ ap (λ (t : List ℕ). laid 0 t a.room.now) (sym (error_layout (asked a.rules) a.rc.0)) in
-    room_written a.room.now (error_ready (book_for a.rules) (asked a.rules) a.cc.0 a.rc.0 h (length a.room.now) c.if-rc-eq0.false said).1 put
+    let whole = room_written a.room.now (error_ready (book_for a.rules) (asked a.rules) a.cc.0 a.rc.0 h (length a.room.now) c.if-rc-eq0.false said).1 put in
+    search rules
