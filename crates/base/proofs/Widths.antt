@@ -10,10 +10,10 @@ use lib.ListN.{length, take, drop}
 use lib.Seq.{take_at}
 use Rattle.base.specs.declared.error.Area.{Area}
 use Rattle.base.specs.Bytes.{number, bytes}
-use Rattle.base.specs.Said.{in_area, gives, refuses, within}
+use Rattle.base.specs.Said.{after, done, in_area, gives, refuses, within}
 use Rattle.base.specs.Field.{read_bytes, read_field, write_field, laid, write_bytes}
 use Rattle.base.proofs.Bytes.{length_bytes}
-use Rattle.base.proofs.Checks.{gives_injective, needs_gives, within_gives}
+use Rattle.base.proofs.Checks.{done_gives, gives_injective, needs_gives, within_gives}
 use Rattle.base.proofs.Lists.{span, take_drop_span}
 
 module _ (w place : ℕ) (s : List ℕ) where
@@ -34,6 +34,13 @@ module _ (w place : ℕ) (s : List ℕ) where
 
   pub write_number : (n : ℕ) (t : List ℕ) → t ≡ bytes w n → write_bytes place t s ≡ write_field w place n s
   write_number n t e = ap (λ (u : List ℕ). write_bytes place u s) e ∙ rw length_bytes refl
+
+-- bytes whose writing was not refused are there
+pub laid_there : (place : ℕ) (t s : List ℕ) {later : List ℕ} → gives tt ≡ done (write_bytes place t s) → later ≡ after s (write_bytes place t s) → later ≡ laid place t s
+laid_there place t s e l =
+    let wrote = done_gives (write_bytes place t s) e in
+    let is = needs_gives (leb (length t) (length s - place)) _ (gives (laid place t s)) (sym wrote.1) in
+    l ∙ ap (after s) (sym wrote.1) ∙ sym (gives_injective is.1)
 
 -- bytes that were put at the start of others are found there
 pub through : (t s : List ℕ) {later : List ℕ} → later ≡ laid 0 t s → take (length t) later ≡ t

@@ -1,11 +1,11 @@
 // Big-endian fields of 16 and 32 bits, read from and written to a place of a lent slice, and bytes copied to one. Every
 // slice and every place is taken: where the bytes are not there, the answer is the refusal and nothing is touched. A read
 // is told the area of the frame that it is in.
-ghost use Rattle.std.specs.Prelude.{◌≡◌, [], ◌∷◌, ◌-◌, ◌<◌};
+ghost use Rattle.std.specs.Prelude.{◌≡◌, [], ◌∷◌, ◌-◌, ◌≤◌, ◌<◌, length};
 ghost use Rattle.base.specs.Bytes.{number};
 ghost use Rattle.base.specs.Said.{after, done, within};
 ghost use Rattle.base.specs.Answer.{said};
-ghost use Rattle.base.specs.Field.{read_bytes, read_field, write_bytes, write_field};
+ghost use Rattle.base.specs.Field.{laid, read_bytes, read_field, write_bytes, write_field};
 
 use crate::error::{Area, TpmError};
 
@@ -75,7 +75,20 @@ pub fn write_u32(s: &mut [u8], place: usize, n: u32) -> Result<(), TpmError>
     write_bytes(s, place, &n.to_be_bytes())
 }
 
-// Copies all of t to a place of s: every copy of bytes here is this one.
+// The bytes that are copied at once.
+const BLOCK: usize = 4096;
+
+fn lay(s: &mut [u8], place: usize, t: &[u8])
+    requires { length t.now ≤ length s.old - place }
+    ensures { s.new ≡ laid place t.now s.old }
+{
+    if 0 < t.len() {
+        s[place..place + t.len()].copy_from_slice(t);
+    }
+}
+
+// Copies all of t to a place of s: every copy of bytes here is this one. Through an array of its own the compiler sees that nothing
+// overlaps, and makes one move of the two: else it tests for that first, and has a loop for the other case.
 pub fn write_bytes(s: &mut [u8], place: usize, t: &[u8]) -> Result<(), TpmError>
     ensures answer { said result ≡ done (write_bytes place t.now s.old) }
     ensures bytes { s.new ≡ after s.old (write_bytes place t.now s.old) }
@@ -90,8 +103,12 @@ pub fn write_bytes(s: &mut [u8], place: usize, t: &[u8]) -> Result<(), TpmError>
             available: left,
         });
     }
-    if 0 < needed {
-        s[place..place + needed].copy_from_slice(t);
+    if BLOCK < needed {
+        lay(s, place, t);
+        return Ok(());
     }
+    let mut block = [0; 4096];
+    lay(&mut block, 0, t);
+    lay(s, place, &block[..needed]);
     Ok(())
 }

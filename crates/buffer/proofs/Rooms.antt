@@ -11,6 +11,7 @@ use lib.Dec.{eqb, leb}
 use lib.ListN.{length, take, drop}
 use lib.Seq.{length-take-le, take_at, drop_at, drop-drop}
 use Rattle.base.specs.Bytes.{bytes}
+use Rattle.base.specs.Field.{laid}
 use Rattle.base.specs.Said.{Why, no_area, gives, refuses}
 use Rattle.base.specs.Tpm2b.{tpm2b}
 use Rattle.base.proofs.Bytes.{length_bytes}
@@ -71,13 +72,14 @@ module _ (capacity size count : ℕ) where
       let is = gives_injective fits.1 in
       (omega arith, omega arith)
 
--- the bytes given, copied to the room from the size on, leave it as an extended buffer has it
+-- the bytes given, laid into the room from the size on, leave it as an extended buffer has it
 pub extend_done : (capacity : ℕ) (given : List ℕ) (b : Buffer) (n : ℕ) → gives n ≡ grown capacity b.size (length given)
-    → put_mid b.size (n - b.size) b.room given ≡ room_after b.room (extended capacity given b)
+    → laid b.size given b.room ≡ room_after b.room (extended capacity given b)
 unfolding extended
 extend_done capacity given b n e =
     let size = grown_size capacity b.size (length given) e in
-    rw (← e, Post-is b.size n b.room (omega arith)) refl
+    let all : b.size + length given ≡ n = omega arith in
+    rw (← e) (ap (λ (k : ℕ). take b.size b.room ++ (given ++ drop k b.room)) all)
 
 -- ---- reading
 

@@ -156,7 +156,7 @@ impl<const N: usize> TpmBuffer<N> {
         let grown = grow(Self::most(), size, given.len())?;
         // A part to write to is lent from a slice, not from an array of N.
         let room = &mut data[..];
-        room[size as usize..grown].copy_from_slice(given);
+        write_bytes(room, size as usize, given)?;
         Ok(grown)
     }
 

@@ -35,19 +35,19 @@ module _ (s : List ℕ) where
 -- ---- the place that is found
 
 module _ (s : List ℕ) (handle : ℕ) where
-  pub is_open_lem : {i : ℕ} → suc i ≡ place_of s handle → is_open handle (held s) ≡ true
+  pub is_open_lem : {p : ℕ} → p ≡ place_of s handle → 0 < p → is_open handle (held s) ≡ true
   unfolding held place_of
-  is_open_lem {i} at = open_found s handle (count_of s) i (sym at)
+  is_open_lem {p} at h = let one : p ≡ suc (p - 1) = omega arith in open_found s handle (count_of s) (p - 1) (sym at ∙ one)
 
   pub is_not_open : 0 ≡ place_of s handle → is_open handle (held s) ≡ false
   unfolding held place_of
   is_not_open none = open_not_found s handle (count_of s) (sym none)
 
   pub open_where : (found : Option ℕ) → counted found ≡ place_of s handle → is_open handle (held s) ≡ is_some found
-  open_where (Some i) at = is_open_lem at
+  open_where (Some i) at = is_open_lem at (omega arith)
   open_where None at = is_not_open at
 
-  -- it is one of those that are open
+  -- it is within those that are open
   pub place_inside : place_of s handle ≤ count_of s
   unfolding place_of
   place_inside = place_most s handle (count_of s)
@@ -81,7 +81,7 @@ module _ (s : List ℕ) (handle : ℕ) where
 
   pub closed_given : {i : ℕ} → suc i ≡ place_of s handle → gives (without handle (held s)) ≡ closed handle (held s)
   unfolding closed
-  closed_given at = simp (is_open_lem at)
+  closed_given at = simp (is_open_lem at (omega arith))
 
   -- ---- asking
 

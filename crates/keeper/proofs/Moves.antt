@@ -93,7 +93,7 @@ module _ (s : List ℕ) (one other : ℕ) where
     where
       by : (p : ℕ) → place_of s one ≡ p → same_place p (place_of s other) ≡ (is_open one (held s) && eqb other one)
       by zero e = rw (is_not_open s one (sym e)) refl
-      by (suc i) e = rw (is_open_lem s one (sym e), lt-ltb 0 (suc i) (omega arith)) (found_alike i e (eqb other one) refl)
+      by (suc i) e = rw (is_open_lem s one refl (rw e (omega arith)), lt-ltb 0 (suc i) (omega arith)) (found_alike i e (eqb other one) refl)
 
 -- ---- three entries, of which so many are there
 

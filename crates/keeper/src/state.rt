@@ -66,6 +66,7 @@ pub(crate) fn renew(s: &mut State, i: usize, nonce: &[u8])
 }
 
 // Another session for it.
+#[tactic(auto, using(crate::proofs::Places::handle_laid))]
 pub(crate) fn put(s: &mut State, i: usize, handle: u32, nonce: &[u8])
     requires { (i < 64) × (length nonce.now ≤ 64) }
     ensures { s.new ≡ put i handle nonce.now s.old }
@@ -76,7 +77,7 @@ pub(crate) fn put(s: &mut State, i: usize, handle: u32, nonce: &[u8])
 }
 
 // The session of one place at another.
-#[tactic(auto, using(crate::proofs::Places::size_most))]
+#[tactic(auto, using(crate::proofs::Places::size_most, crate::proofs::Places::length_nonce, crate::proofs::Places::nonce_through))]
 pub(crate) fn shift(s: &mut State, from: usize, to: usize)
     requires { (from < 64) × (to < 64) }
     ensures bytes { s.new ≡ shifted from to s.old }
@@ -93,6 +94,7 @@ pub(crate) fn shift(s: &mut State, from: usize, to: usize)
 // ---- the place of a handle
 
 // Whether a place of a group has the handle: all are looked at, so that they are compared at once.
+#[tactic(auto, using(crate::proofs::Found::none_more))]
 fn has(s: &State, from: usize, handle: u32) -> bool
     requires { from + 8 ≤ 64 }
     ensures { result ≡ false → (k : ℕ) → k ≤ 8 → place_below s.now handle (from + k) ≡ place_below s.now handle from }
@@ -122,7 +124,7 @@ fn within(s: &State, from: usize, to: usize, handle: u32) -> Option<usize>
 
 // The same of all open places: a group is looked at one by one only where it has the handle. Where one group starts the one before it
 // ends, so a `for` over the groups, which reckons both anew, is no plainer.
-#[tactic(auto, using(crate::proofs::Found::nothing_below, crate::proofs::Places::count_most), unfolding(crate::specs::State::place_of))]
+#[tactic(auto, using(crate::proofs::Found::group_passed, crate::proofs::Found::nothing_below, crate::proofs::Places::count_most), unfolding(crate::specs::State::place_of))]
 pub(crate) fn place(s: &State, handle: u32) -> Option<usize>
     ensures { counted result ≡ place_of s.now handle }
 {

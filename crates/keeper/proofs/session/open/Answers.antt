@@ -1,10 +1,10 @@
 -- `keeper::session::open` meets its contract: the cases of `opened`.
 -- Assumes nothing.
 use mathlib.Core.Path.{◌≡◌, sym, ◌∙◌, ap}
+use mathlib.Core.Bool.{false}
 use Prim.Native.Nat.{◌+◌, ◌<◌}
 use native.Mathlib.Omega.{arith}
 use lib.ListN.{length, set}
-use mathlib.Core.Bool.{false}
 use Rattle.keeper.specs.Keeper.{is_open, opened}
 use Rattle.keeper.specs.State.{count_of, held, put, opened_in}
 use Rattle.keeper.proofs.Calls.{refused, accepted, open_where, opened_already, opened_long, opened_full, opened_given, held_opened}
@@ -30,7 +30,8 @@ unfolding opened_in
 returns-then-nonce-gt-LONGEST c =
     let a = c.args in
     let s = a.keeper.now in
-    let each = refused s (opened a.handle a.nonce.now (held s)) _ (opened_long s a.handle a.nonce.now (free (goal.at.returns-then-nonce-gt-LONGEST c).Else-is_some) c.if-nonce-gt-LONGEST.true) in
+    let each = refused s (opened a.handle a.nonce.now (held s)) _
+    (opened_long s a.handle a.nonce.now (free (goal.at.returns-then-nonce-gt-LONGEST c).Else-is_some) c.if-nonce-gt-LONGEST.true) in
     record { answer = each.0; sessions = each.1.0; bytes = each.1.1 }
 
 pub returns-then-n-ge-PLACES : goal.returns-then-n-ge-PLACES
