@@ -36,8 +36,8 @@ module _ (w place : ℕ) (s : List ℕ) where
   write_number n t e = ap (λ (u : List ℕ). write_bytes place u s) e ∙ rw length_bytes refl
 
 -- bytes whose writing was not refused are there
-pub laid_there : (place : ℕ) (t s : List ℕ) {later : List ℕ} → gives tt ≡ done (write_bytes place t s) → later ≡ after s (write_bytes place t s) → later ≡ laid place t s
-laid_there place t s e l =
+pub written : (place : ℕ) (t s : List ℕ) {later : List ℕ} → gives tt ≡ done (write_bytes place t s) → later ≡ after s (write_bytes place t s) → later ≡ laid place t s
+written place t s e l =
     let wrote = done_gives (write_bytes place t s) e in
     let is = needs_gives (leb (length t) (length s - place)) _ (gives (laid place t s)) (sym wrote.1) in
     l ∙ ap (after s) (sym wrote.1) ∙ sym (gives_injective is.1)

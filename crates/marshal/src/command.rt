@@ -9,9 +9,7 @@ ghost use Rattle.base.specs.Field.{laid};
 ghost use Rattle.marshal.specs.Write.{Ready, counted, room_after, write_command};
 
 use crate::put::Cursor;
-use crate::total::{
-    Parts, entries_length, found, judge_handles, judge_total, look, tag_for, too_many,
-};
+use crate::total::{Parts, entries_length, judge_handles, judge_total, look, tag_for, too_many};
 use base::code::{TpmCc, TpmSt};
 use base::error::{Area, WriteError};
 use frame::rules::{Rules, longest};
@@ -36,12 +34,7 @@ fn judge_command(
     }
     let row = find(rules.revision, cc)?;
     judge_handles(row.handles, parts.handles.len())?;
-    let limit = longest(rules);
-    found(
-        limit,
-        parts.lent.len(),
-        look(limit, *parts.sessions, parts.lent.len()),
-    )?;
+    look(longest(rules), *parts.sessions, parts.lent.len())?;
     judge_total(
         tag.0,
         parts.handles.len(),

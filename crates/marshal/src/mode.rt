@@ -37,6 +37,7 @@ fn reading_of(mode: Mode) -> Reading
     }
 }
 
+// Of this crate alone: an impl of From would be a public promise.
 pub(crate) fn rules_for(rules: ResponseRules) -> Rules
     ensures { result ≡ rules_for rules }
 {

@@ -1,5 +1,5 @@
-// What writes: a cursor stands at a place of lent room. Each call puts its bytes there and goes behind them, and asks that there is room
-// for them, which the writers have judged before the first byte. An entry is inlined by the hint alone: else its record goes by memory.
+// What writes: each call puts its bytes where a cursor stands and goes behind them, and asks that there is room for them, which the
+// writers have judged before the first byte. An entry is inlined by the hint alone: else its record would go by memory.
 ghost use Rattle.std.specs.Prelude.{◌≡◌, ◌++◌, ◌+◌, ◌≤◌, length};
 ghost use Rattle.base.specs.Bytes.{bytes};
 ghost use Rattle.base.specs.Said.{gives};
@@ -14,6 +14,7 @@ ghost use Rattle.marshal.specs.Write.{field_there, session_there, sessions_there
 use base::field::write_bytes;
 use frame::session::{Entries, Field, Session};
 
+// Lent room, and the place where what comes next is put.
 #[derive(Drop)]
 pub(crate) struct Cursor<'a> {
     pub(crate) room: &'a mut [u8],

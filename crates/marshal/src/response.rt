@@ -14,7 +14,7 @@ ghost use Rattle.marshal.specs.Write.{Ready, counted, room_after, write_bad_tag,
 use crate::mode::{ResponseRules, asks_bad_tag, rules_for};
 use crate::put::Cursor;
 use crate::total::{
-    Parts, entries_length, fits, found, judge_handles, judge_total, look, tag_for, too_many,
+    Parts, entries_length, fits, judge_handles, judge_total, look, tag_for, too_many,
 };
 use base::code::{TpmCc, TpmRc, TpmSt};
 use base::error::{Area, WriteError};
@@ -91,12 +91,7 @@ fn judge_response(
         return judge_error(rc, parts.sessions.count, room);
     }
     judge_handles(row.responses, parts.handles.len())?;
-    let limit = longest(rules_for(rules));
-    found(
-        limit,
-        parts.lent.len(),
-        look(limit, *parts.sessions, parts.lent.len()),
-    )?;
+    look(longest(rules_for(rules)), *parts.sessions, parts.lent.len())?;
     judge_total(
         tag_for(parts.sessions.count),
         parts.handles.len(),

@@ -1,17 +1,16 @@
 // How long a frame gets, and whether it can be written: nothing here touches the room.
-ghost use Rattle.std.specs.Prelude.{◌≡◌, [], ◌∷◌, ℕ, ◌+◌, ◌-◌, ◌≤◌, cond, eqb, leb, length};
+ghost use Rattle.std.specs.Prelude.{◌≡◌, [], ◌∷◌, ◌+◌, ◌≤◌, cond, eqb, leb};
 ghost use Rattle.base.specs.Answer.{said, said_total};
 ghost use Rattle.base.specs.Error.{numbered};
-ghost use Rattle.base.specs.Said.{given, gives, no_area, refuses, then};
+ghost use Rattle.base.specs.Said.{no_area};
 ghost use Rattle.frame.specs.Answer.{handle_width};
 ghost use Rattle.frame.specs.Header.{sessions};
 ghost use Rattle.frame.specs.Parts.{entries_of};
-ghost use Rattle.marshal.specs.Handed.{Handed, tag_for};
-ghost use Rattle.marshal.specs.Looked.{handles_there, said_looked, sized, why_not};
-ghost use Rattle.marshal.specs.Write.{capped, entries_length, entry_length, field_there, fitted, judged, session_there, sessions_there};
+ghost use Rattle.marshal.specs.Handed.{tag_for};
+ghost use Rattle.marshal.specs.Looked.{handles_there, sized};
+ghost use Rattle.marshal.specs.Write.{entries_length, entry_length, field_there, fitted, session_there, sessions_there};
 
 use base::error::{Area, TpmError, WriteError};
-use base::field::left;
 use frame::header::{HEADER_SIZE, PLAIN, SESSIONS};
 use frame::session::{Entries, Field, MAX_SESSIONS, Session};
 
@@ -53,14 +52,6 @@ pub(crate) fn too_many(count: usize) -> TpmError
     }
 }
 
-// A nonce or an HMAC that cannot be taken: its position and its length, as the refusal tells them. A length of 16 bits would be widened
-// at every use.
-#[derive(Clone, Copy)]
-pub(crate) struct Missing {
-    at: usize,
-    size: usize,
-}
-
 // Whether a nonce or an HMAC stands within so many lent bytes. A position is never added to: it may be any number.
 fn inside(f: Field, lent: usize) -> bool
     ensures { result ≡ leb (f.at + f.size) lent }
@@ -68,58 +59,43 @@ fn inside(f: Field, lent: usize) -> bool
     f.at <= lent && f.size as usize <= lent - f.at
 }
 
-// Whether it is within the limit too.
-fn there(limit: usize, f: Field, lent: usize) -> bool
-    ensures { result ≡ given (field_there limit lent f) }
+// Looks at a nonce or an HMAC: it is within the limit, and in the lent bytes.
+fn look_at(limit: usize, f: Field, lent: usize) -> Result<(), TpmError>
+    ensures { said result ≡ field_there limit lent f }
 {
-    f.size as usize <= limit && inside(f, lent)
-}
-
-// Why it is not: too long, or past the end.
-fn why_not(limit: usize, lent: usize, field: Missing) -> TpmError
-    ensures { numbered result ≡ why_not limit lent field.at field.size }
-{
-    if limit < field.size {
-        return TpmError::TooManyBytes {
+    let size = f.size as usize;
+    if limit < size {
+        return Err(TpmError::TooManyBytes {
             area: Area::None,
             offset: 0,
             limit,
-            actual: field.size,
-        };
+            actual: size,
+        });
     }
-    TpmError::UnexpectedEnd {
-        area: Area::None,
-        offset: field.at,
-        needed: field.size,
-        available: left(lent, field.at),
-    }
-}
-
-// Looks at a nonce or an HMAC.
-fn look_at(limit: usize, f: Field, lent: usize) -> Result<(), Missing>
-    ensures { said_looked limit lent result ≡ field_there limit lent f }
-{
-    if there(limit, f, lent) {
+    if inside(f, lent) {
         return Ok(());
     }
-    Err(Missing {
-        at: f.at,
-        size: f.size as usize,
+    Err(TpmError::UnexpectedEnd {
+        area: Area::None,
+        offset: f.at,
+        needed: size,
+        available: lent.saturating_sub(f.at),
     })
 }
 
 // Looks at one session, the nonce before the HMAC.
-fn look_at_both(limit: usize, e: Session, lent: usize) -> Result<(), Missing>
-    ensures { said_looked limit lent result ≡ session_there limit lent e }
+fn look_at_both(limit: usize, e: Session, lent: usize) -> Result<(), TpmError>
+    ensures { said result ≡ session_there limit lent e }
 {
     look_at(limit, e.nonce, lent)?;
     look_at(limit, e.hmac, lent)
 }
 
-// Looks at the sessions in their order, for nonces and HMACs of at most so many bytes, in so many lent bytes.
+// Looks at the sessions in their order, for nonces and HMACs of at most so many bytes, in so many lent bytes. Behind the tests before it LLVM
+// takes a call for cold: it is inlined by the hint alone, and so is entries_length, and else the record would go by memory.
 #[inline(always)]
-pub(crate) fn look(limit: usize, es: Entries, lent: usize) -> Result<(), Missing>
-    ensures { said_looked limit lent result ≡ sessions_there limit lent (entries_of es) }
+pub(crate) fn look(limit: usize, es: Entries, lent: usize) -> Result<(), TpmError>
+    ensures { said result ≡ sessions_there limit lent (entries_of es) }
 {
     if es.count == 0 {
         return Ok(());
@@ -162,13 +138,6 @@ pub(crate) fn entries_length(command: bool, es: Entries) -> usize
     entry_length(command, es.first)
         + entry_length(command, es.second)
         + entry_length(command, es.third)
-}
-
-// What was looked for, as it is refused: a search carries the two numbers alone.
-pub(crate) fn found(limit: usize, lent: usize, looked: Result<(), Missing>) -> Result<(), TpmError>
-    ensures { said result ≡ said_looked limit lent looked }
-{
-    looked.map_err(|field| why_not(limit, lent, field))
 }
 
 // Whether there are the handles of a row, four bytes each, and no more.

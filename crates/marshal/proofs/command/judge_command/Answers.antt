@@ -29,13 +29,13 @@ returns-in_err-judge_handles c =
     ∙ handles_missing (book_of a.rules).longest 4 a.tag.0 c.in_ok-row.row.handles h a.room c.in_err-judge_handles.ensures
     ∙ command_judged (book_of a.rules) a.tag.0 a.cc.0 h a.room (c.if-tag-tag_for.false ∙ c.tag_for.ensures) c.if-parts-gt-MAX_SESSIONS.false c.in_ok-row.ensures
 
-pub returns-in_err-found : goal.returns-in_err-found
-returns-in_err-found c =
+pub returns-in_err-look : goal.returns-in_err-look
+returns-in_err-look c =
     let a = c.args in
     let h = handed_parts a.parts in
-    passed_on _ _ _ c.from_residual-in_err-found.ensures.1
+    passed_on _ _ _ c.from_residual-in_err-look.ensures.1
     ∙ field_missing (book_of a.rules).longest 4 a.tag.0 c.in_ok-row.row.handles h a.room c.in_ok-judge_handles.ensures
-    (rw c.longest-limit.ensures at (c.in_err-found.ensures ∙ c.look.ensures))
+    (rw c.longest.ensures at c.in_err-look.ensures)
     ∙ command_judged (book_of a.rules) a.tag.0 a.cc.0 h a.room (c.if-tag-tag_for.false ∙ c.tag_for.ensures) c.if-parts-gt-MAX_SESSIONS.false c.in_ok-row.ensures
 
 pub returns : goal.returns
@@ -44,7 +44,7 @@ returns c =
     let h = handed_parts a.parts in
     c.judge_total.ensures
     ∙ all_there (book_of a.rules).longest 4 a.tag.0 c.in_ok-row.row.handles h a.room c.in_ok-judge_handles.ensures
-    (rw c.longest-limit.ensures at (c.in_ok-found.ensures ∙ c.look.ensures)) c.entries_length.ensures.value
+    (rw c.longest.ensures at c.in_ok-look.ensures) c.entries_length.ensures.value
     ∙ command_judged (book_of a.rules) a.tag.0 a.cc.0 h a.room (c.if-tag-tag_for.false ∙ c.tag_for.ensures) c.if-parts-gt-MAX_SESSIONS.false c.in_ok-row.ensures
 
 pub returns-then-tag-tag_for : goal.returns-then-tag-tag_for

@@ -33,13 +33,13 @@ returns-in_err-judge_handles c =
     ∙ handles_missing (book_for a.rules).longest 0 (tag_for a.parts.sessions.now.count) c.in_ok-row.row.responses h a.room c.in_err-judge_handles.ensures
     ∙ success_judged (book_for a.rules) (asked a.rules) a.cc.0 a.rc.0 h a.room c.if-parts-gt-MAX_SESSIONS.false c.in_ok-row.ensures (sym c.asks_bad_tag.ensures ∙ c.if-asks_bad_tag.false) c.if-rc-ne0.false
 
-pub returns-in_err-found : goal.returns-in_err-found
-returns-in_err-found c =
+pub returns-in_err-look : goal.returns-in_err-look
+returns-in_err-look c =
     let a = c.args in
     let h = handed_parts a.parts in
-    passed_on _ _ _ c.from_residual-in_err-found.ensures.1
+    passed_on _ _ _ c.from_residual-in_err-look.ensures.1
     ∙ field_missing (book_for a.rules).longest 0 (tag_for a.parts.sessions.now.count) c.in_ok-row.row.responses h a.room c.in_ok-judge_handles.ensures
-    (rw (c.longest-limit.ensures ∙ ap (λ (r : Rules). (book_of r).longest) c.rules_for.ensures) at (c.in_err-found.ensures ∙ c.look.ensures))
+    (rw (c.longest.ensures ∙ ap (λ (r : Rules). (book_of r).longest) c.rules_for.ensures) at c.in_err-look.ensures)
     ∙ success_judged (book_for a.rules) (asked a.rules) a.cc.0 a.rc.0 h a.room c.if-parts-gt-MAX_SESSIONS.false c.in_ok-row.ensures (sym c.asks_bad_tag.ensures ∙ c.if-asks_bad_tag.false) c.if-rc-ne0.false
 
 pub returns : goal.returns
@@ -48,7 +48,7 @@ returns c =
     let h = handed_parts a.parts in
     (rw c.tag_for.ensures at c.judge_total.ensures)
     ∙ all_there (book_for a.rules).longest 0 (tag_for a.parts.sessions.now.count) c.in_ok-row.row.responses h a.room c.in_ok-judge_handles.ensures
-    (rw (c.longest-limit.ensures ∙ ap (λ (r : Rules). (book_of r).longest) c.rules_for.ensures) at (c.in_ok-found.ensures ∙ c.look.ensures)) c.entries_length.ensures.value
+    (rw (c.longest.ensures ∙ ap (λ (r : Rules). (book_of r).longest) c.rules_for.ensures) at c.in_ok-look.ensures) c.entries_length.ensures.value
     ∙ success_judged (book_for a.rules) (asked a.rules) a.cc.0 a.rc.0 h a.room c.if-parts-gt-MAX_SESSIONS.false c.in_ok-row.ensures (sym c.asks_bad_tag.ensures ∙ c.if-asks_bad_tag.false) c.if-rc-ne0.false
 
 pub returns-in_err-row : goal.returns-in_err-row
