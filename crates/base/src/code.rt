@@ -18,6 +18,7 @@ pub struct TpmCc(pub u32);
 #[derive(Clone, Copy)]
 pub struct TpmRc(pub u32);
 
+// Three of a kind: each makes a variant of its own, and a trait over them would be longer than they are.
 impl TpmSt {
     // The refusal of a tag, InvalidTag.
     pub fn refused(self, area: Area, offset: usize) -> TpmError

@@ -1,4 +1,4 @@
-// The fixed buffer of 64 bytes, of buffer::fixed: its size is a number, and its room is lent.
+// The fixed buffer of 64 bytes, of buffer::fixed: its size is a number, and its room is lent. C has a name for each capacity.
 ghost use Rattle.std.specs.Prelude.{◌≡◌, [], ◌∷◌, ◌+◌};
 ghost use Rattle.base.specs.Said.{after, gives};
 ghost use Rattle.buffer.specs.Fixed.{buffer as record_of, copied, count, equal, extended, marshalled, new, room_after, size_said, unmarshalled, wire_length};

@@ -37,7 +37,7 @@ pub(crate) fn short(len: usize) -> TpmError
     }
 }
 
-// The tag and the code of a header that is there, as they stand.
+// The tag and the code of a header that is there, as they stand. That it is there, four functions ask: a type that says so would be taken apart in each.
 pub(crate) fn tag_of(s: &[u8]) -> TpmSt
     requires { 10 ≤ length s.now }
     ensures { result.0 ≡ tag_of s.now }

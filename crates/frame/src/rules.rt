@@ -18,7 +18,7 @@ pub struct Rules {
     pub revision: Revision,
 }
 
-// Whether the answer to a bad tag is a response.
+// Whether the answer to a bad tag is a response. A `match` and no `==`: each reading says its own.
 pub(crate) fn knows_bad_tag(rules: Rules) -> bool
     ensures { result ≡ (book_of rules).answers_bad_tag }
 {

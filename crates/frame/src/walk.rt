@@ -1,4 +1,5 @@
-// The walk over the entries of an authorization area, one for commands and responses.
+// The walk over the entries of an authorization area, one for commands and responses. `command` is a flag and no closure: the two differ in the
+// handle before an entry alone, and the definitions take its width.
 ghost use Rattle.std.specs.Prelude.{◌≡◌, ℕ, ◌≤◌};
 ghost use Rattle.base.specs.Answer.{said};
 ghost use Rattle.base.specs.Said.{done, gives, within};
@@ -133,6 +134,7 @@ pub(crate) fn entries(command: bool, s: &[u8], place: usize) -> Entries
     ensures { gives result ≡ entries_by_value (walk unlimited 3 (handle_width command) s.now place) }
 {
     let mut found = Entries::new();
+    // A cursor and no count: what stands up to the end is whole entries, as the contract asks.
     let mut at = place;
     while at < s.len() {
         let e = entry_at(command, s, at);

@@ -57,7 +57,7 @@ impl Cursor<'_> {
         self.put_tpm2b(e.hmac, lent);
     }
 
-    // An entry, with a handle before it in a command.
+    // An entry, with a handle before it in a command: a flag, as in frame::walk.
     #[inline]
     fn put_entry(&mut self, command: bool, e: Session, lent: &[u8])
         requires e_value { session_there unlimited (length lent.now) e ≡ gives tt }

@@ -55,7 +55,8 @@ pub(crate) fn response_parts<'a>(call: Call, bytes: &[u8]) -> Option<Answer<'a>>
     })
 }
 
-// The first number is how much room the command has.
+// The first number is how much room the command has. What follows for responses is alike in shape alone: C's calls differ, and the order of
+// their fields.
 pub(crate) fn command_again<'a>(call: Call, bytes: &'a mut [u8]) -> Option<Answer<'a>> {
     if call.first > bytes.len() {
         return None;
