@@ -9,7 +9,7 @@ ghost use Rattle.base.specs.Field.{laid, read_bytes, read_field, write_bytes, wr
 
 use crate::error::{Area, TpmError};
 
-// How many of len bytes stand at a place and behind it.
+// How many of len bytes stand at a place and behind it: the library's method under the name that docs/ has, as be16 and be32 are.
 pub fn left(len: usize, place: usize) -> usize
     ensures { result ≡ len - place }
 {
@@ -49,6 +49,7 @@ fn read_array<const N: usize>(area: Area, s: &[u8], place: usize) -> Result<[u8;
     Ok(*s[place..].first_chunk().unwrap())
 }
 
+// A function a width, as C calls them: what both do is `read_array`, and of the writes `write_bytes`.
 pub fn read_u16(area: Area, s: &[u8], place: usize) -> Result<u16, TpmError>
     ensures { said result ≡ within area (read_field 2 place s.now) }
 {
@@ -78,6 +79,7 @@ pub fn write_u32(s: &mut [u8], place: usize, n: u32) -> Result<(), TpmError>
 // The bytes that are copied at once.
 const BLOCK: usize = 4096;
 
+// Copies all of t to a place of s. Where t is empty the place may lie past the end, and no part is taken.
 fn lay(s: &mut [u8], place: usize, t: &[u8])
     requires { length t.now ≤ length s.old - place }
     ensures { s.new ≡ laid place t.now s.old }
@@ -87,7 +89,7 @@ fn lay(s: &mut [u8], place: usize, t: &[u8])
     }
 }
 
-// Copies all of t to a place of s: every copy of bytes here is this one. Through an array of its own the compiler sees that nothing
+// Copies all of t to a place of s, or refuses: fields and frames are written by it. Through an array of its own the compiler sees that nothing
 // overlaps, and makes one move of the two: else it tests for that first, and has a loop for the other case.
 pub fn write_bytes(s: &mut [u8], place: usize, t: &[u8]) -> Result<(), TpmError>
     ensures answer { said result ≡ done (write_bytes place t.now s.old) }
@@ -107,7 +109,7 @@ pub fn write_bytes(s: &mut [u8], place: usize, t: &[u8]) -> Result<(), TpmError>
         lay(s, place, t);
         return Ok(());
     }
-    let mut block = [0; 4096];
+    let mut block = [0; BLOCK];
     lay(&mut block, 0, t);
     lay(s, place, &block[..needed]);
     Ok(())

@@ -52,12 +52,10 @@ pub fn part(s: &[u8], range: Result<Span, TpmError>) -> &[u8]
     ensures { IsPart (said_range range) s.entry result }
 {
     let at = placed(range, s.len());
-    let from = at.from;
-    let to = at.to;
-    &s[from..to]
+    &s[at.from..at.to]
 }
 
-// The same as a part that can be written to. Once its last bytes are known, so are those of the slice.
+// The same as a part that can be written to. Once its last bytes are known, so are those of the slice. The proof walks it by hand, local by local.
 pub fn part_mut(s: &mut [u8], range: Result<Span, TpmError>) -> &mut [u8]
     ensures* writes_back { sem 𝓛 (LendsPart (said_range range) s.entry result) }
     ensures part { IsPartMut (said_range range) s.entry result }

@@ -2,9 +2,8 @@
 ghost use Rattle.std.specs.Prelude.{◌≡◌};
 ghost use Rattle.rc.specs.declared.code.Code.{Code};
 ghost use Rattle.rc.specs.Code.{read_code};
-ghost use Rattle.capi.specs.Code.{code_of, kind_numbered, parts_and_value, value};
+ghost use Rattle.capi.specs.Code.{code_of, parts_and_value, value};
 ghost use Rattle.capi.specs.Out.{Reports};
-ghost use Rattle.capi.specs.Rules.{named};
 
 use crate::out::{Answer, Numbers, Refused, report};
 use crate::rules::Unknown;
@@ -33,27 +32,17 @@ pub extern "C" fn skein_rc_read(rc: u32, out: &mut Numbers) -> u32
     report(rc::code::read(TpmRc(rc)), out)
 }
 
-// The kind that C's number names.
-#[tactic(auto, using(crate::proofs::Numbered::no_kind))]
-fn kind_named(number: u32) -> Result<Kind, Unknown>
-    ensures { named result ≡ kind_numbered number }
-{
-    match Kind::try_from(number) {
-        Ok(kind) => Ok(kind),
-        Err(_) => Err(Unknown::Kind(number)),
-    }
-}
-
 // The value of the code of a kind, by its number, a base and an index.
+#[tactic(auto, using(crate::proofs::Numbered::no_kind))]
 #[unsafe(no_mangle)]
 pub extern "C" fn skein_rc_value(kind: u32, base: u32, index: u8, out: &mut Numbers) -> u32
     ensures { Reports value (code_of kind base index) out.old out.new result }
 {
-    match kind_named(kind) {
+    match Kind::try_from(kind) {
         Ok(kind) => {
             out[0] = Code::from_parts(kind, base, index).value() as u64;
             0
         }
-        Err(unknown) => unknown.store(out),
+        Err(_) => Unknown::Kind(kind).store(out),
     }
 }

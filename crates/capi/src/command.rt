@@ -83,6 +83,7 @@ pub extern "C" fn skein_command_set_cc(rules: u32, cc: u32, s: &mut [u8], out: &
 }
 
 // All parts by value, behind the number that the other calls return; the array takes a refusal's fields alone.
+// C has a record a kind, and so a call a kind.
 #[repr(C)]
 #[derive(Clone, Copy)]
 pub struct CommandParts {
@@ -90,6 +91,7 @@ pub struct CommandParts {
     pub command: Command,
 }
 
+// No Default of a command's own: zeros are what C gets of a refused one.
 fn no_command() -> Command
     ensures { result ≡ no_command }
 {

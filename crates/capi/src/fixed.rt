@@ -1,5 +1,5 @@
-// The calls on a fixed buffer, over any capacity: its size is a number, and its room is lent. Those that have a whole buffer by value ask
-// that it fits in memory.
+// The calls on a fixed buffer, over any capacity: its size is a number, and its room is lent, as C has them. Those that have a
+// whole buffer by value ask that it fits in memory, which no type says of a capacity.
 ghost use Rattle.std.specs.Prelude.{◌≡◌, [], ◌∷◌, ◌+◌, ◌<◌};
 ghost use Rattle.base.specs.Said.{after, gives};
 ghost use Rattle.buffer.specs.Capacities.{most, of};
@@ -11,7 +11,7 @@ ghost use Rattle.capi.specs.Out.{Reports, one, truth};
 use crate::out::{Numbers, Refused, report};
 use buffer::fixed::TpmBuffer;
 
-// Lays a buffer down in lent room.
+// Lays a buffer down in lent room. Copied by a method: the check does not cover `*data = buffer.data`.
 fn lay<const N: usize>(buffer: TpmBuffer<N>, data: &mut [u8; N], out: &mut Numbers) -> u32
     ensures reports { Reports size_alone (gives (of buffer.entry)) out.old out.new result }
     ensures data_after { «data».new ≡ (of buffer.entry).room }

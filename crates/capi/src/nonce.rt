@@ -12,7 +12,7 @@ use crate::rules::revision_named;
 use keeper::refusal::Refusal;
 use keeper::state::State;
 
-// A frame's own refusal, or a number without fields.
+// A frame's own refusal, or a number without fields, of C's own.
 impl Refused for Refusal {
     ghost why = { numbered };
 

@@ -255,7 +255,7 @@ impl Refused for WriteError {
     }
 }
 
-// A part from the start of so many bytes, and what is behind it.
+// A part from the start of so many bytes, and what is behind it. No `Answer`: how many bytes there are no span tells.
 pub(crate) fn with_tail(a: Result<Span, TpmError>, all: usize, out: &mut Numbers) -> u32
     ensures { Reports (part_and_tail all) (said_range a) out.old out.new result }
 {

@@ -76,6 +76,7 @@ pub struct ResponseParts {
     pub response: Response,
 }
 
+// No Default of a response's own: zeros are what C gets of a refused one.
 fn no_response() -> Response
     ensures { result ≡ no_response }
 {

@@ -31,7 +31,8 @@ impl Refused for Unknown {
     }
 }
 
-// The table at a place of their list, in a number.
+// The table at a place of their list, in a number. This and the two like it are C's numbers, which the enums' own crates do not know, and one over
+// a trait of the three would take an impl of each.
 fn table_named(number: u32, place: u32) -> Result<Revision, Unknown>
     ensures { named result ≡ table_named number place }
 {

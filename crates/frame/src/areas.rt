@@ -32,7 +32,8 @@ pub(crate) fn handle_area(handles: u8, s: &[u8]) -> Result<usize, TpmError>
     Ok(HEADER_SIZE + needed)
 }
 
-// The sized bytes behind the handles: entries or parameters, as their area says. Without sessions there is no size, and they end where the caller says.
+// The sized bytes behind the handles: entries or parameters, as their area says. Without sessions there is no size, and they end where the caller
+// says: a flag beside that end, as the definition has both, since an `Option` of it would be made by each caller by the same test.
 pub(crate) fn sized_area(
     area: Area,
     sessions: bool,

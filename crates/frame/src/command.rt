@@ -59,7 +59,7 @@ pub fn cc(rules: Rules, s: &[u8]) -> Result<TpmCc, TpmError>
     }
 }
 
-// Changes the command code to one that has a row, and nothing else.
+// Changes the command code to one that has a row, and nothing else. The search refuses in no area, and this is the header's: so no `?`.
 pub fn set_cc(rules: Rules, s: &mut [u8], cc: TpmCc) -> Result<(), TpmError>
     ensures answer { said result ≡ done (set_cc (book_of rules) cc.0 s.old) }
     ensures bytes { s.new ≡ after s.old (set_cc (book_of rules) cc.0 s.old) }
@@ -83,10 +83,10 @@ fn handles_end(rules: Rules, s: &[u8]) -> Result<usize, TpmError>
         return Err(short(s.len()));
     }
     let cc = TpmCc(code_of(s));
-    match find(rules.revision, cc) {
-        Ok(row) => handle_area(row.handles, s),
-        Err(_) => Err(cc.refused(Area::Header, 6)),
-    }
+    let Ok(row) = find(rules.revision, cc) else {
+        return Err(cc.refused(Area::Header, 6));
+    };
+    handle_area(row.handles, s)
 }
 
 fn areas(rules: Rules, s: &[u8]) -> Result<Areas, TpmError>
@@ -281,15 +281,13 @@ pub fn validate(rules: Rules, s: &[u8]) -> Result<(), TpmError>
 pub fn parts(rules: Rules, s: &[u8]) -> Result<Command, TpmError>
     ensures { said result ≡ command_by_value s.now (read_command (book_of rules) s.now) }
 {
-    let a = divide(rules, s)?;
-    let from = a.from;
-    let to = a.to;
+    let Areas { handles, from, to } = divide(rules, s)?;
     Ok(Command {
         tag: tag_of(s),
         cc: TpmCc(code_of(s)),
         handles: Span {
             from: HEADER_SIZE,
-            to: a.handles,
+            to: handles,
         },
         auth: Span { from, to },
         parameters: Span {

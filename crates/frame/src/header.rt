@@ -193,5 +193,5 @@ pub fn len(s: &[u8]) -> usize
 pub fn is_empty(s: &[u8]) -> bool
     ensures { result ≡ eqb (length s.now) 0 }
 {
-    s.len() == 0
+    s.is_empty()
 }

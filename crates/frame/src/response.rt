@@ -244,6 +244,7 @@ fn error_areas(rules: Rules, s: &[u8]) -> Result<Areas, TpmError>
     }
 }
 
+// The search refuses in no area, and this is the header's: so no `?`.
 fn areas(rules: Rules, cc: TpmCc, s: &[u8]) -> Result<Areas, TpmError>
     ensures { said result ≡ response_areas (book_of rules) cc.0 s.now }
 {

@@ -5,7 +5,7 @@ ghost use Rattle.frame.specs.Rules.{book_of};
 use table::revision::Revision;
 
 // The Rust's reading, or the standard one, which knows the answer to a bad tag and how long a nonce or an HMAC can be.
-#[derive(Clone, Copy)]
+#[derive(Clone, Copy, PartialEq)]
 pub enum Reading {
     Rust,
     Standard,
@@ -18,14 +18,11 @@ pub struct Rules {
     pub revision: Revision,
 }
 
-// Whether the answer to a bad tag is a response. A `match` and no `==`: each reading says its own.
+// Whether the answer to a bad tag is a response.
 pub(crate) fn knows_bad_tag(rules: Rules) -> bool
     ensures { result ≡ (book_of rules).answers_bad_tag }
 {
-    match rules.reading {
-        Reading::Rust => false,
-        Reading::Standard => true,
-    }
+    rules.reading == Reading::Standard
 }
 
 // The most bytes of a nonce or an HMAC: what a length of two bytes can say, or the longest digest that the Library has.
@@ -33,7 +30,7 @@ pub fn longest(rules: Rules) -> usize
     ensures { result ≡ (book_of rules).longest }
 {
     match rules.reading {
-        Reading::Rust => 65535,
+        Reading::Rust => u16::MAX as usize,
         Reading::Standard => 64,
     }
 }

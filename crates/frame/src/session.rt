@@ -23,7 +23,8 @@ pub struct Session {
     pub hmac: Field,
 }
 
-// How many entries an area has, and the first three.
+// How many entries an area has, and the first three: fields and no array, as C has the record by value and names them. So what goes over them
+// asks for the count three times, and is no loop.
 #[repr(C)]
 #[derive(Clone, Copy, Default)]
 pub struct Entries {

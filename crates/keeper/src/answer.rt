@@ -40,9 +40,7 @@ fn move_to(s: &mut State, at: Option<usize>, nonce: Field, response: &[u8])
     ensures { s.new ≡ renewed_at (counted at) (field_in response.now nonce) s.old }
 {
     if let Some(i) = at {
-        let from = nonce.at;
-        let to = from + nonce.size as usize;
-        renew(s, i, &response[from..to]);
+        renew(s, i, &response[nonce.at..nonce.at + nonce.size as usize]);
     }
 }
 

@@ -1,5 +1,5 @@
 // The keeper's bytes: for each of 64 places a handle, the size of a nonce, and room for its bytes; and how many places are open. The
-// open ones are the first so many (specs/State.antt).
+// open ones are the first so many (specs/State.antt). An array and no struct: C lends it as one opaque block, and all bytes are a state.
 ghost use Rattle.std.specs.Prelude.{◌≡◌, false, ℕ, ◌+◌, ◌≤◌, ◌<◌, length};
 ghost use Rattle.keeper.specs.State.{capped, count_of, counted, counted_or, handle_at, place_below, place_of, put, renewed, shifted, size_at};
 
@@ -93,7 +93,7 @@ pub(crate) fn shift(s: &mut State, from: usize, to: usize)
 
 // ---- the place of a handle
 
-// Whether a place of a group has the handle: all are looked at, so that they are compared at once.
+// Whether a place of a group has the handle: all are looked at, so that they are compared at once, where `any` stops at the first.
 #[tactic(auto, using(crate::proofs::Found::none_more))]
 fn has(s: &State, from: usize, handle: u32) -> bool
     requires { from + 8 ≤ 64 }
@@ -108,7 +108,7 @@ fn has(s: &State, from: usize, handle: u32) -> bool
     any
 }
 
-// The last place that has the handle, of those from one on up to another.
+// The last place that has the handle, of those from one on up to another. No `find`: its closure would have to ask for a place below 64.
 #[tactic(auto, using(crate::proofs::Found::place_hit, crate::proofs::Found::place_miss))]
 fn within(s: &State, from: usize, to: usize, handle: u32) -> Option<usize>
     requires { (from ≤ to) × (to ≤ 64) }

@@ -14,6 +14,7 @@ use Rattle.base.specs.Said.{Why, no_area, Said, gives, refuses, needs, then, giv
 use Rattle.base.proofs.Checks.{passes, fails, goes_on, stops, needs_gives, then_gives, cond_gives, gives_injective, gives≢refuses}
 use Rattle.rc.specs.Code.{read_code, read_fmt0}
 use Rattle.rc.specs.Known.{is_known, known_codes}
+use Rattle.rc.proofs.Laws.{only_five}
 use Rattle.table.specs.Table.{row_for}
 use Rattle.table.specs.declared.row.Row.{Row}
 use Rattle.frame.specs.Header.{plain, sessions, rsp_command, bad_tag, is_of_two}
@@ -287,6 +288,15 @@ module _ (code : ℕ) where
 
   pub reads_success : code ≡ 0 → (given (read_code code) || eqb code bad_tag) ≡ true
   reads_success zero = reads_known (ap (λ (n : ℕ). given (read_code n)) zero ∙ success_reads)
+
+  -- a code that is not read is refused by 5 alone
+  pub not_read : {A : Type 0} {why : Why} (rest : Said A) → refuses why ≡ read_code code → refuses why ≡ needs (given (read_code code)) (no_area (5 ∷ 0 ∷ code ∷ [])) rest
+  not_read rest e = ap refuses ((only_five code).each _ (sym e)) ∙ fails (given (read_code code)) _ rest (ap given (sym e))
+
+  pub other_not_read : {A : Type 0} {why : Why} (rest : Said A) → (code ≡ bad_tag → ⊥) → refuses why ≡ read_code code
+      → refuses why ≡ needs (given (read_code code) || eqb code bad_tag) (no_area (5 ∷ 0 ∷ code ∷ [])) rest
+  other_not_read rest other e =
+      ap refuses ((only_five code).each _ (sym e)) ∙ fails (given (read_code code) || eqb code bad_tag) _ rest (rw (ne_eqb code bad_tag other, ← e) refl)
 
 -- the codes that a bare header is written with
 abbrev pub Errs : Bool → ℕ → Type 0

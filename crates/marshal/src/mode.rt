@@ -26,7 +26,7 @@ pub(crate) fn asks_bad_tag(rules: ResponseRules) -> bool
     rules.mode == Mode::BadTag
 }
 
-// The reading by which what is written in a mode is read again.
+// The reading by which what is written in a mode is read again. No From, nor is there one below: it would be a public promise.
 fn reading_of(mode: Mode) -> Reading
     ensures { result ≡ reading_of mode }
 {
@@ -37,7 +37,7 @@ fn reading_of(mode: Mode) -> Reading
     }
 }
 
-// Of this crate alone: an impl of From would be a public promise.
+// The rules by which what is written is read again.
 pub(crate) fn rules_for(rules: ResponseRules) -> Rules
     ensures { result ≡ rules_for rules }
 {

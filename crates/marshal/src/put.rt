@@ -22,7 +22,7 @@ pub(crate) struct Cursor<'a> {
 }
 
 impl Cursor<'_> {
-    // Copies all of t.
+    // Copies all of t. There is room for it, as the contract asks, so no refusal is dropped.
     pub(crate) fn put(&mut self, t: &[u8])
         requires { RoomFor t.now self.old }
         ensures same_reference { self.new.room.ghost_name ≡ self.old.room.ghost_name }

@@ -28,9 +28,7 @@ use table::dispatch::find;
 fn judge_error(rc: TpmRc, count: usize, room: usize) -> Result<usize, WriteError>
     ensures { said_total result ≡ needs (given (read_code rc.0)) (no_area (5 ∷ 0 ∷ rc.0 ∷ [])) (counted (write_error rc.0 count room)) }
 {
-    let Ok(_) = read(rc) else {
-        return Err(rc.refused(Area::None, 0).into());
-    };
+    read(rc)?;
     if count == 0 {
         return fits(HEADER_SIZE, room);
     }
@@ -50,9 +48,7 @@ fn judge_bad_tag(rc: TpmRc, count: usize, room: usize) -> Result<usize, WriteErr
     if rc.0 == 0 {
         return Err(rc.refused(Area::None, 0).into());
     }
-    let Ok(_) = read(rc) else {
-        return Err(rc.refused(Area::None, 0).into());
-    };
+    read(rc)?;
     if count == 0 {
         return Err(rc.refused(Area::None, 0).into());
     }

@@ -14,7 +14,8 @@ use base::error::{Area, TpmError, WriteError};
 use frame::header::{HEADER_SIZE, PLAIN, SESSIONS};
 use frame::session::{Entries, Field, MAX_SESSIONS, Session};
 
-// What is handed to a writer beside the tag and the codes.
+// What is handed to a writer beside the tag and the codes. The writers take the parts one by one, as C hands them over and docs/ has them, and
+// make one of this.
 #[derive(Clone, Copy)]
 pub(crate) struct Parts<'a> {
     pub(crate) handles: &'a [u8],
@@ -24,7 +25,7 @@ pub(crate) struct Parts<'a> {
 }
 
 // The largest total that a size field holds.
-const LARGEST_SIZE: usize = 4294967295;
+const LARGEST_SIZE: usize = u32::MAX as usize;
 
 // The tag that goes with so many sessions.
 pub(crate) fn tag_for(count: usize) -> u16

@@ -8,12 +8,12 @@ use base::code::TpmRc;
 use base::error::{Area, TpmError};
 
 // A base code. Reading gives known ones alone.
-#[derive(Clone, Copy, Debug, PartialEq, Eq)]
+#[derive(Clone, Copy)]
 pub struct TpmRcBase(pub u32);
 
 // What a response code says: format zero, an error or a warning; or format one, of no part, or of the parameter,
 // handle or session of a number.
-#[derive(Clone, Copy, Debug, PartialEq, Eq)]
+#[derive(Clone, Copy)]
 pub enum Code {
     Fmt0(TpmRcBase),
     Warn(TpmRcBase),
@@ -24,7 +24,7 @@ pub enum Code {
 }
 
 // The kinds of codes, in the order of the variants of Code.
-#[derive(Clone, Copy, Debug, PartialEq, Eq)]
+#[derive(Clone, Copy)]
 pub enum Kind {
     Fmt0,
     Warn,
@@ -35,7 +35,7 @@ pub enum Kind {
 }
 
 // A number that names no kind.
-#[derive(Clone, Copy, Debug, PartialEq, Eq)]
+#[derive(Clone, Copy)]
 pub struct UnknownKind(pub u32);
 
 // What a response code says. README and docs/ name `read`, and a TryFrom beside it would say the same.
@@ -85,7 +85,8 @@ fn is_parameter(value: u32) -> bool
     value & 0x40 != 0
 }
 
-// The same of a value whose bit 7 is set: bits 0 to 5 are the base's, bit 6 is P, bits 8 to 11 are N.
+// The same of a value whose bit 7 is set: bits 0 to 5 are the base's, bit 6 is P, bits 8 to 11 are N. Fields of bits are taken by division,
+// as the definition has them; a mask is plainer for one bit alone.
 #[tactic(auto, unfolding(crate::specs::Code::read_fmt1, crate::specs::Code::read_index))]
 fn fmt1_of(value: u32) -> Option<Code>
     ensures { found value result ≡ read_fmt1 value }

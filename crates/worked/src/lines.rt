@@ -10,6 +10,7 @@ use std::io::Read;
 const ROOM: usize = 16384;
 
 // The line that is coming in: how many of its bytes stand in the room, and whether others were written before them.
+// Fixed memory, so an array and no Vec: a line may be of any length.
 #[derive(Drop)]
 struct Coming {
     room: [u8; ROOM],
