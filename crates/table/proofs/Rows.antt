@@ -5,27 +5,18 @@ use mathlib.Core.Path.{◌≡◌, refl, sym, ◌∙◌, ap}
 use mathlib.Core.Bool.{Bool, true, false, ◌&&◌, ◌||◌, cond, and-eq-true_iff}
 use mathlib.Core.List.{List, [], ◌∷◌}
 use mathlib.Core.Logic.{⊎_elim}
-use Prim.Native.Nat.{ℕ, zero, suc, ◌+◌, ◌*◌, ◌/◌, ◌%◌, ◌≤◌, ◌<◌}
+use Prim.Native.Nat.{ℕ, zero, suc, ◌≤◌, ◌<◌}
 use native.Mathlib.Nat.{le_of_suc-le-suc, not-suc-le-zero}
 use native.Mathlib.Omega.{arith}
 use borrow.Author.Tests.{ltb-true, leb-true, eq-eqb, ne_eqb}
 use lib.Dec.{eqb, leb}
-use lib.ListN.{length, get_or, drop}
-use lib.Seq.{get_or-take, get_or-drop}
+use lib.ListN.{length, get_or}
 use Rattle.std.proofs.lemmas.Bool.{or_parts}
 use Rattle.base.specs.Members.{is_in}
 use Rattle.base.specs.Said.{no_area, Said, gives, refuses, given}
 use Rattle.base.proofs.Checks.{gives≢refuses, gives_injective, cond_gives}
 use Rattle.table.specs.declared.row.Row.{Row}
-use Rattle.table.specs.Table.{row_for, codes, below_first, rising, few, IsTable, part, none, code_at}
-
--- rows in parts of four: the row at a place stands in the part of its four
-pub in_part : (rows : List Row) (k place : ℕ) → place / 4 ≡ k → get_or (part rows k) (place % 4) none ≡ get_or rows place none
-in_part rows k place e =
-    let here : 4 * k + place % 4 ≡ place = omega arith in
-    get_or-take 4 (drop (4 * k) rows) (place % 4) none (omega arith)
-    ∙ get_or-drop (4 * k) rows (place % 4) none
-    ∙ ap (λ (i : ℕ). get_or rows i none) here
+use Rattle.table.specs.Table.{row_for, codes, below_first, rising, few, IsTable, none, code_at}
 
 -- rising rows: the first row's code is below the next one's, and the others rise
 next_and_rest : (r : Row) (rows : List Row) → rising (r ∷ rows) ≡ true → (below_first r.code rows ≡ true) × (rising rows ≡ true)
