@@ -15,7 +15,7 @@ pub enum Area {
 }
 
 impl Area {
-    // The number of an area, from 0 in the order of the variants.
+    // The number of an area, from 0 in the order of the variants: C counts areas by it.
     pub fn number(self) -> u32
         ensures { result ≡ area_number self }
     {

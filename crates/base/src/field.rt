@@ -89,7 +89,7 @@ fn lay(s: &mut [u8], place: usize, t: &[u8])
     }
 }
 
-// Copies all of t to a place of s, or refuses: fields and frames are written by it. Through an array of its own the compiler sees that nothing
+// Copies all of t to a place of s, or refuses: fields, buffers and frames are written by it. Through an array of its own the compiler sees that nothing
 // overlaps, and makes one move of the two: else it tests for that first, and has a loop for the other case.
 pub fn write_bytes(s: &mut [u8], place: usize, t: &[u8]) -> Result<(), TpmError>
     ensures answer { said result ≡ done (write_bytes place t.now s.old) }

@@ -12,7 +12,7 @@ use crate::rules::revision_named;
 use keeper::refusal::Refusal;
 use keeper::state::State;
 
-// A frame's own refusal, or a number without fields, of C's own.
+// A frame's own refusal, or a number without fields: numbers are C's, and keeper has none.
 impl Refused for Refusal {
     ghost why = { numbered };
 

@@ -25,7 +25,7 @@ pub(crate) fn knows_bad_tag(rules: Rules) -> bool
     rules.reading == Reading::Standard
 }
 
-// The most bytes of a nonce or an HMAC: what a length of two bytes can say, or the longest digest that the Library has.
+// The most bytes of a nonce or an HMAC: what a length of two bytes can say, or the longest digest that the Library has. By a `match`: a third reading has to say its own.
 pub fn longest(rules: Rules) -> usize
     ensures { result ≡ (book_of rules).longest }
 {

@@ -112,7 +112,7 @@ pub(crate) fn look(limit: usize, es: Entries, lent: usize) -> Result<(), TpmErro
     look_at_both(limit, es.third, lent)
 }
 
-// The bytes that the entry of a session takes.
+// The bytes that the entry of a session takes: a flag, as in frame::walk.
 fn entry_length(command: bool, e: Session) -> usize
     ensures value { result ≡ entry_length (handle_width command) e }
     ensures few { result ≤ 131079 }
@@ -121,7 +121,7 @@ fn entry_length(command: bool, e: Session) -> usize
     if command { 4 + signed } else { signed }
 }
 
-// The bytes that the entries take.
+// The bytes that the entries take, with the same flag.
 #[inline(always)]
 pub(crate) fn entries_length(command: bool, es: Entries) -> usize
     ensures value { result ≡ entries_length (handle_width command) (entries_of es) }

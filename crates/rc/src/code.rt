@@ -171,7 +171,7 @@ impl Code {
 }
 
 impl Kind {
-    // The number of a kind, from 0 in the order of the variants.
+    // The number of a kind, from 0 in the order of the variants: C counts kinds by it.
     pub fn number(self) -> u32
         ensures { result ≡ kind_number self }
     {
@@ -198,7 +198,7 @@ impl TryFrom<u32> for Kind {
     }
 }
 
-// The low four bits of a number, at the bits of N.
+// The low four bits of a number, at the bits of N, told as the definition tells them.
 fn shifted(n: u32) -> u32
     ensures { result ≡ n % 16 * 256 }
 {

@@ -28,7 +28,7 @@ fn place(revision: Revision, code: u32) -> usize
     }
 }
 
-// Of a code behind those of the rows that all tables share.
+// Of a code behind those of the rows that all tables share. Revision 1.38 has one such row: 112 is its place, and no kind's number.
 fn own_place(revision: Revision, code: u32) -> usize
     requires { 0x194 ≤ code }
     ensures { result ≡ place_of revision code }
