@@ -1,12 +1,14 @@
 -- Bytes laid at a place of others: how long the whole is, what stands there, and that all before them and behind them is as it was.
 -- Assumes nothing.
 use mathlib.Core.Path.{◌≡◌, refl, sym, ◌∙◌, ap}
-use mathlib.Core.List.{List, ◌++◌, append_assoc}
+use mathlib.Core.List.{List, ◌++◌, append_assoc, append-nil}
 use Prim.Native.Nat.{ℕ, ◌+◌, ◌-◌, ◌≤◌, ◌<◌}
 use native.Mathlib.Omega.{arith}
-use lib.ListN.{length, get_or, take, drop, length-append, length-drop, get_or-append}
+use borrow.Author.Tests.{le-leb}
+use lib.ListN.{length, get_or, take, drop, length-append, length-drop, get_or-append, drop_of_length-le}
 use lib.Seq.{length-take-le, take-append-le, drop-append-le, take_at, drop_at, drop-drop, drop-append-add, get_or-take}
-use Rattle.base.specs.Field.{laid}
+use Rattle.base.specs.Field.{laid, write_bytes}
+use Rattle.base.specs.Said.{after}
 use Rattle.base.proofs.Places.{read_within}
 
 module _ (place : ℕ) (t s : List ℕ) (inside : place + length t ≤ length s) where
@@ -49,3 +51,14 @@ module _ (place : ℕ) (t s : List ℕ) (inside : place + length t ≤ length s)
   pub getD_before_laid : (i : ℕ) → i < place → get_or (laid place t s) i 0 ≡ get_or s i 0
   getD_before_laid i h =
       get_or-append (take place s) (t ++ drop (place + length t) s) 0 i (rw front h) ∙ get_or-take place s i 0 h
+
+-- a write for which there is room
+pub bytes_laid : (place : ℕ) (t s : List ℕ) → length t ≤ length s - place → after s (write_bytes place t s) ≡ laid place t s
+bytes_laid place t s h = simp (le-leb (length t) (length s - place) h)
+
+-- .. of as many bytes as are there
+pub all_written : (t s : List ℕ) → length t ≡ length s → after s (write_bytes 0 t s) ≡ t
+all_written t s e =
+    bytes_laid 0 t s (omega arith)
+    ∙ ap (λ (u : List ℕ). t ++ u) (drop_of_length-le s {i = 0 + length t} (omega arith))
+    ∙ append-nil t

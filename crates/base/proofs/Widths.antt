@@ -42,6 +42,10 @@ written place t s e l =
     let is = needs_gives (leb (length t) (length s - place)) _ (gives (laid place t s)) (sym wrote.1) in
     l ∙ ap (after s) (sym wrote.1) ∙ sym (gives_injective is.1)
 
+-- where there is room for them, they are put there
+pub bytes_put : (place : ℕ) (t s : List ℕ) {later : List ℕ} → length t ≤ length s - place → later ≡ after s (write_bytes place t s) → later ≡ laid place t s
+bytes_put place t s h e = rw (le-leb (length t) (length s - place) h) at e
+
 -- bytes that were put at the start of others are found there
 pub through : (t s : List ℕ) {later : List ℕ} → later ≡ laid 0 t s → take (length t) later ≡ t
 through t s e = ap (take (length t)) e ∙ take_at t (drop (0 + length t) s) (length t) refl

@@ -1,4 +1,4 @@
--- The laws of the view and of the fixed buffer, over any capacity that a size can tell: a read passes exactly on the layout
+-- The laws of the view and of the fixed buffer, over any capacity: a read passes exactly on the layout
 -- of a TPM2B; a buffer written and read again is equal, and the tail is what stood behind it; a TPM2B read and written
 -- again is the same bytes; an extended buffer holds what it held and then what was given.
 -- Assumes nothing.
@@ -8,6 +8,7 @@ use mathlib.Core.List.{List, [], ◌++◌, append_assoc, append-nil}
 use mathlib.Core.Logic.{◌↔◌}
 use Prim.Native.Nat.{ℕ, ◌+◌, ◌-◌, ◌≤◌, ◌<◌}
 use native.Mathlib.Omega.{arith}
+use Rattle.std.proofs.Math.Nat.{min-eq_left, min-eq_right, min-le_left, min-le_right}
 use lib.Dec.{leb}
 use lib.ListN.{length, take, drop, replicate, length-append, length-drop, drop_of_length-le}
 use lib.Seq.{length-take-le, take_at}
@@ -18,6 +19,7 @@ use Rattle.base.specs.Tpm2b.{tpm2b}
 use Rattle.base.proofs.Checks.{needs_gives, then_gives, gives_injective}
 use Rattle.base.proofs.Parts.{part_behind}
 use Rattle.base.proofs.Tpm2b.{length_tpm2b, tpm2b_size, tpm2b_data, tpm2b_rest, tpm2b_again}
+use Rattle.buffer.specs.Capacities.{most}
 use Rattle.buffer.specs.Fixed.{Buffer, held, wire, put, new, over, grown, extended, marshalled, unmarshalled, equal, same_bytes}
 use Rattle.buffer.specs.View.{read_size, prefix, whole}
 use Rattle.buffer.proofs.Rooms.{emitted_gives, length_held, bytes_same, equal_read, grown_size, read_done}
@@ -81,12 +83,19 @@ module _ (capacity : ℕ) (s : List ℕ) (p : AreBytes s) where
 
 -- ---- the fixed buffer
 
--- a record of the capacity
+-- a record of the capacity, whose size is a number of 16 bits
+abbrev pub OfSize : ℕ → Buffer → Type 0
+OfSize capacity b = (b.size ≤ capacity) × (length b.room ≡ capacity) × (b.size < 65536)
+
+-- .. as each is of a capacity that a size can tell
 abbrev pub OfCapacity : ℕ → Buffer → Type 0
 OfCapacity capacity b = (b.size ≤ capacity) × (length b.room ≡ capacity) × (capacity < 65536)
 
+pub of_capacity : (capacity : ℕ) (b : Buffer) → OfCapacity capacity b → OfSize capacity b
+of_capacity capacity b w = (w.0, w.1, omega arith)
+
 -- marshal into room, then unmarshal: an equal buffer, and what stood behind it
-module _ (capacity : ℕ) (b : Buffer) (lent : List ℕ) (w : OfCapacity capacity b) (room : 2 + b.size ≤ length lent) where
+module _ (capacity : ℕ) (b : Buffer) (lent : List ℕ) (w : OfSize capacity b) (room : 2 + b.size ≤ length lent) where
   size_held : length (held b) ≡ b.size
   size_held = length_held b.size b.room (omega arith)
 
@@ -131,8 +140,8 @@ module _ (capacity : ℕ) (s : List ℕ) (p : AreBytes s) where
       let short : length (wire b) ≡ n = ap (λ (l : List ℕ). length (tpm2b l)) same ∙ all in
       emitted_gives capacity b.size (wire b) lent (omega arith) (omega arith) ∙ ap (λ (l : List ℕ). gives (over l lent)) laid
 
--- an extended buffer holds what it held, and then what was given
-pub held_extended : (capacity : ℕ) (given : List ℕ) (b c : Buffer) → length b.room ≡ capacity → extended capacity given b ≡ gives c → held c ≡ held b ++ given
+-- an extended buffer holds what it held, and then what was given, by any capacity that its room has
+pub held_extended : (capacity : ℕ) (given : List ℕ) (b c : Buffer) → capacity ≤ length b.room → extended capacity given b ≡ gives c → held c ≡ held b ++ given
 unfolding extended
 held_extended capacity given b c w e =
     let g = then_gives (grown capacity b.size (length given)) _ e in
@@ -141,3 +150,19 @@ held_extended capacity given b c w e =
     let all : length (held b ++ given) ≡ g.0 = length-append (held b) given ∙ omega arith in
     ap held (sym (gives_injective g.2)) ∙ ap (take g.0) (sym (append_assoc (held b) given (drop g.0 b.room)))
     ∙ take_at (held b ++ given) (drop g.0 b.room) g.0 all
+
+-- ---- the most bytes that a room holds, by which a buffer is extended: all of it, and no more than a size can tell
+
+pub all_held : (n : ℕ) → n < 65536 → most n ≡ n
+all_held n h = min-eq_left (omega arith)
+
+pub no_more : (n : ℕ) → most n ≤ 65535
+no_more n = min-le_right n 65535
+
+-- a larger one is filled up to that
+pub filled : (n : ℕ) → 65535 ≤ n → most n ≡ 65535
+filled n h = min-eq_right h
+
+-- so it has room for them
+pub most_inside : (n : ℕ) → most n ≤ n
+most_inside n = min-le_left n 65535

@@ -142,7 +142,8 @@ impl<const N: usize> TpmBuffer<N> {
         let n = view::validate_prefix(N, s)?;
         let size = n - 2;
         let mut data = [0; N];
-        data[..size].copy_from_slice(&s[2..n]);
+        let room = &mut data[..];
+        write_bytes(room, 0, &s[2..n])?;
         let size = size as u16;
         Ok((TpmBuffer { size, data }, n))
     }
@@ -185,8 +186,8 @@ impl<const N: usize> TpmBuffer<N> {
                 available: lent.len(),
             });
         }
-        lent[..2].copy_from_slice(&size.to_be_bytes());
-        lent[2..needed].copy_from_slice(&data[..held]);
+        write_bytes(lent, 0, &size.to_be_bytes())?;
+        write_bytes(lent, 2, &data[..held])?;
         Ok(needed)
     }
 }

@@ -106,6 +106,19 @@ fn no_command() -> Command
     }
 }
 
+// What C gets of one that is refused. By itself, so that the ways to it share no piece of the answer.
+#[cold]
+#[inline(never)]
+fn refused(refusal: u32) -> CommandParts
+    ensures number { result.refusal ≡ refusal }
+    ensures nothing { result.command ≡ no_command }
+{
+    CommandParts {
+        refusal,
+        command: no_command(),
+    }
+}
+
 #[unsafe(no_mangle)]
 pub extern "C" fn skein_command_parts(rules: u32, s: &[u8], out: &mut Numbers) -> CommandParts
     ensures reports { Reports none (under rules λ book. command_by_value s.now (read_command book s.now)) out.old out.new result.refusal }
@@ -117,15 +130,9 @@ pub extern "C" fn skein_command_parts(rules: u32, s: &[u8], out: &mut Numbers) -
                 refusal: 0,
                 command,
             },
-            Err(e) => CommandParts {
-                refusal: e.store(out),
-                command: no_command(),
-            },
+            Err(e) => refused(e.store(out)),
         },
-        Err(unknown) => CommandParts {
-            refusal: unknown.store(out),
-            command: no_command(),
-        },
+        Err(unknown) => refused(unknown.store(out)),
     }
 }
 

@@ -9,14 +9,16 @@ ghost use Rattle.capi.specs.Buffer.{size_and_wire, size_alone};
 ghost use Rattle.capi.specs.Out.{Reports, one, truth};
 
 use crate::out::{Numbers, Refused, report};
+use base::field::write_bytes;
 use buffer::fixed::TpmBuffer;
 
-// Lays a buffer down in lent room. Copied by a method: the check does not cover `*data = buffer.data`.
-fn lay<const N: usize>(buffer: TpmBuffer<N>, data: &mut [u8; N], out: &mut Numbers) -> u32
-    ensures reports { Reports size_alone (gives (of buffer.entry)) out.old out.new result }
-    ensures data_after { «data».new ≡ (of buffer.entry).room }
+// Lays a buffer down in lent room. No `*data = buffer.data`, which the check does not cover.
+#[tactic(auto, using(base::proofs::Laid::all_written))]
+fn lay<const N: usize>(buffer: &TpmBuffer<N>, data: &mut [u8; N], out: &mut Numbers) -> u32
+    ensures reports { Reports size_alone (gives (of buffer.now)) out.old out.new result }
+    ensures data_after { «data».new ≡ (of buffer.now).room }
 {
-    data.copy_from_slice(&buffer.data);
+    let _ = write_bytes(data, 0, &buffer.data);
     out[0] = buffer.size as u64;
     0
 }
@@ -26,7 +28,7 @@ pub(crate) fn new<const N: usize>(data: &mut [u8; N], out: &mut Numbers) -> u32
     ensures reports { Reports size_alone (gives (new N)) out.old out.new result }
     ensures data_after { «data».new ≡ (new N).room }
 {
-    lay(TpmBuffer::new(), data, out)
+    lay(&TpmBuffer::new(), data, out)
 }
 
 pub(crate) fn wire_len<const N: usize>(size: u16, out: &mut Numbers) -> u32
@@ -108,23 +110,23 @@ pub(crate) fn from_slice<const N: usize>(s: &[u8], data: &mut [u8; N], out: &mut
     ensures reports { Reports size_alone (extended (most N) s.now (new N)) out.old out.new result }
     ensures data_after { «data».new ≡ room_after «data».old (extended (most N) s.now (new N)) }
 {
-    match TpmBuffer::from_slice(s) {
+    match &TpmBuffer::from_slice(s) {
         Ok(buffer) => lay(buffer, data, out),
         Err(e) => e.store(out),
     }
 }
 
-#[tactic(auto, unfolding(buffer::specs::Fixed::unmarshalled))]
+#[tactic(auto, using(base::proofs::Laid::all_written), unfolding(buffer::specs::Fixed::unmarshalled))]
 pub(crate) fn unmarshal<const N: usize>(s: &[u8], data: &mut [u8; N], out: &mut Numbers) -> u32
     requires { N < 65536 }
     ensures reports { Reports size_and_wire (prefix N s.now) out.old out.new result }
     ensures data_after { «data».new ≡ room_after «data».old (unmarshalled N s.now) }
 {
-    match TpmBuffer::<N>::unmarshal(s) {
+    match &TpmBuffer::<N>::unmarshal(s) {
         Ok((buffer, n)) => {
-            data.copy_from_slice(&buffer.data);
+            let _ = write_bytes(data, 0, &buffer.data);
             out[0] = buffer.size as u64;
-            out[1] = n as u64;
+            out[1] = *n as u64;
             0
         }
         Err(e) => e.store(out),

@@ -91,6 +91,19 @@ fn no_response() -> Response
     }
 }
 
+// What C gets of one that is refused. By itself, so that the ways to it share no piece of the answer.
+#[cold]
+#[inline(never)]
+fn refused(refusal: u32) -> ResponseParts
+    ensures number { result.refusal ≡ refusal }
+    ensures nothing { result.response ≡ no_response }
+{
+    ResponseParts {
+        refusal,
+        response: no_response(),
+    }
+}
+
 #[unsafe(no_mangle)]
 pub extern "C" fn skein_response_parts(
     rules: u32,
@@ -107,15 +120,9 @@ pub extern "C" fn skein_response_parts(
                 refusal: 0,
                 response,
             },
-            Err(e) => ResponseParts {
-                refusal: e.store(out),
-                response: no_response(),
-            },
+            Err(e) => refused(e.store(out)),
         },
-        Err(unknown) => ResponseParts {
-            refusal: unknown.store(out),
-            response: no_response(),
-        },
+        Err(unknown) => refused(unknown.store(out)),
     }
 }
 

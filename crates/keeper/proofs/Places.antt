@@ -2,20 +2,22 @@
 -- Assumes nothing.
 use mathlib.Core.Path.{◌≡◌, refl, sym, ◌∙◌, ap}
 use mathlib.Core.Bool.{Bool, true, false, cond}
-use mathlib.Core.List.{List, [], ◌∷◌, ◌++◌}
+use mathlib.Core.List.{List, [], ◌∷◌}
 use mathlib.Core.Logic.{◌⊎◌, inl, inr, ⊎_elim}
 use Prim.Native.Nat.{ℕ, suc, ◌+◌, ◌-◌, ◌/◌, ◌%◌, ◌≤◌, ◌<◌}
 use native.Mathlib.Omega.{arith}
 use borrow.Author.Tests.{ltb-true, ltb-false}
 use lib.Dec.{ltb}
 use lib.ListN.{length, get_or, set, take, drop, length-drop, length-set}
-use lib.Seq.{drop-drop, get_or-set_same, get_or-set_other, drop-set-lt, length-take-le}
+use lib.Seq.{get_or-set_same, get_or-set_other, drop-set-lt, length-take-le}
 use Rattle.std.proofs.lemmas.List.{take-take}
 use Rattle.base.specs.Bytes.{number}
-use Rattle.base.specs.Field.{laid}
+use Rattle.base.specs.Field.{laid, write_bytes}
+use Rattle.base.specs.Said.{after}
 use Rattle.base.proofs.Bytes.{number_bytes, four_bytes}
 use Rattle.base.proofs.Lists.{stored}
-use Rattle.base.proofs.Laid.{length_laid, before_laid, behind_laid, laid_there, getD_before_laid}
+use Rattle.base.proofs.Laid.{length_laid, before_laid, behind_laid, laid_there, getD_before_laid, bytes_laid}
+use Rattle.base.proofs.Widths.{bytes_put, through}
 use Rattle.keeper.specs.State.{handle_place, size_place, nonce_place, capped, count_of, handle_at, size_at, nonce_at, labelled, renewed, put, open_at}
 
 -- ---- a place that is within the bytes
@@ -48,12 +50,21 @@ module _ (s : List ℕ) (all : length s ≡ 4424) (i : ℕ) (h : i < 64) where
   unfolding nonce_at
   length_nonce = let few = size_most s i in length-take-le (size_at s i) (drop (nonce_place i) s) (rw (length-drop, all) (omega arith))
 
-  pub nonce_through : {n : ℕ} → n ≡ size_at s i → {t : List ℕ} → t ≡ take (nonce_place i + 64 - nonce_place i) (drop (nonce_place i) s) → take n t ≡ nonce_at s i
+  pub nonce_through : {n : ℕ} → n ≡ size_at s i → (room : List ℕ) → length room ≡ 64 → {later : List ℕ}
+      → later ≡ after room (write_bytes 0 (take (nonce_place i + 64 - nonce_place i) (drop (nonce_place i) s)) room) → take n later ≡ nonce_at s i
   unfolding nonce_at
-  nonce_through {n} is {t} e =
+  nonce_through {n} is room fits {later} e =
       let few = size_most s i in
-      let room : n ≤ nonce_place i + 64 - nonce_place i = omega arith in
-      ap (take n) e ∙ take-take n (nonce_place i + 64 - nonce_place i) (drop (nonce_place i) s) room ∙ ap (λ (k : ℕ). take k (drop (nonce_place i) s)) is
+      let wide : nonce_place i + 64 - nonce_place i ≡ 64 = omega arith in
+      let t : List ℕ = take (nonce_place i + 64 - nonce_place i) (drop (nonce_place i) s) in
+      let long : length t ≡ nonce_place i + 64 - nonce_place i =
+      length-take-le (nonce_place i + 64 - nonce_place i) (drop (nonce_place i) s) (rw (length-drop, all) (omega arith)) in
+      let there : later ≡ laid 0 t room = bytes_put 0 t room (rw (long, fits) (omega arith)) e in
+      let inside : n ≤ length t = rw long (omega arith) in
+      sym (take-take n (length t) later inside)
+      ∙ ap (take n) (through t room there)
+      ∙ take-take n (nonce_place i + 64 - nonce_place i) (drop (nonce_place i) s) (omega arith)
+      ∙ ap (λ (k : ℕ). take k (drop (nonce_place i) s)) is
 
 -- ---- another nonce
 
@@ -129,11 +140,11 @@ module _ (s : List ℕ) (all : length s ≡ 4424) (i : ℕ) (h : i < 64) (handle
   unfolding labelled
   length_labelled = simp length-set all
 
-  -- the bytes of the handle, laid at its place
-  pub handle_laid : handle < 4294967296 → {n : ℕ} → n ≡ 4 → {t : List ℕ} → t ≡ handle % 256 ∷ handle / 256 % 256 ∷ handle / 65536 % 256 ∷ handle / 16777216 % 256 ∷ []
-      → take (handle_place i) s ++ (t ++ drop n (drop (handle_place i) s)) ≡ labelled i handle s
+  -- the bytes of the handle, written to its place
+  pub handle_laid : handle < 4294967296 → {t : List ℕ} → t ≡ handle % 256 ∷ handle / 256 % 256 ∷ handle / 65536 % 256 ∷ handle / 16777216 % 256 ∷ []
+      → after s (write_bytes (handle_place i) t s) ≡ labelled i handle s
   unfolding labelled
-  handle_laid few {n} long {t} is =
+  handle_laid few {t} is =
       let p : ℕ = handle_place i in
       let last : handle / 16777216 % 256 ≡ handle / 16777216 = omega arith in
       let four : List ℕ = handle % 256 ∷ handle / 256 % 256 ∷ handle / 65536 % 256 ∷ handle / 16777216 ∷ [] in
@@ -141,8 +152,8 @@ module _ (s : List ℕ) (all : length s ≡ 4424) (i : ℕ) (h : i < 64) (handle
       let one : suc p ≡ p + 1 = omega arith in
       let two : suc (suc p) ≡ p + 2 = omega arith in
       let three : suc (suc (suc p)) ≡ p + 3 = omega arith in
-      (λ k. take p s ++ (same k ++ drop (long k) (drop p s)))
-      ∙ ap (λ (u : List ℕ). take p s ++ (four ++ u)) (drop-drop 4 p s)
+      bytes_laid p t s (rw (same, all) (omega arith))
+      ∙ ap (λ (u : List ℕ). laid p u s) same
       ∙ sym (stored s p four (omega arith) (omega arith))
       ∙ (λ k. set (set (set (set s p (handle % 256)) (one k) (handle / 256 % 256)) (two k) (handle / 65536 % 256)) (three k) (handle / 16777216))
 

@@ -3,6 +3,8 @@
 ghost use Rattle.std.specs.Prelude.{◌≡◌, false, ℕ, ◌+◌, ◌≤◌, ◌<◌, length};
 ghost use Rattle.keeper.specs.State.{capped, count_of, counted, counted_or, handle_at, place_below, place_of, put, renewed, shifted, size_at};
 
+use base::field::write_bytes;
+
 pub type State = [u8; 4424];
 
 pub(crate) const PLACES: usize = 64;
@@ -62,7 +64,7 @@ pub(crate) fn renew(s: &mut State, i: usize, nonce: &[u8])
 {
     let at = NONCES + 64 * i;
     s[SIZES + i] = nonce.len() as u8;
-    s[at..at + nonce.len()].copy_from_slice(nonce);
+    let _ = write_bytes(s, at, nonce);
 }
 
 // Another session for it.
@@ -72,7 +74,7 @@ pub(crate) fn put(s: &mut State, i: usize, handle: u32, nonce: &[u8])
     ensures { s.new ≡ put i handle nonce.now s.old }
 {
     let at = HANDLES + 4 * i;
-    s[at..at + 4].copy_from_slice(&handle.to_le_bytes());
+    let _ = write_bytes(s, at, &handle.to_le_bytes());
     renew(s, i, nonce);
 }
 
@@ -87,7 +89,7 @@ pub(crate) fn shift(s: &mut State, from: usize, to: usize)
     let handle = handle_at(s, from);
     let start = NONCES + 64 * from;
     let mut nonce = [0; 64];
-    nonce.copy_from_slice(&s[start..start + 64]);
+    let _ = write_bytes(&mut nonce, 0, &s[start..start + 64]);
     put(s, to, handle, &nonce[..size]);
 }
 

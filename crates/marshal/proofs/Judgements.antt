@@ -17,11 +17,16 @@ use Rattle.base.specs.Error.{numbered, writer_numbered}
 use Rattle.base.specs.Said.{Why, no_area, Said, gives, refuses, needs, then}
 use Rattle.base.proofs.Checks.{passes, fails, goes_on, stops}
 use Rattle.frame.specs.declared.session.Session.{Session}
+use Rattle.frame.specs.Answer.{handle_width}
 use Rattle.frame.specs.Header.{sessions}
 use Rattle.frame.specs.Parts.{entries_of}
 use Rattle.marshal.specs.Handed.{Handed}
 use Rattle.marshal.specs.Looked.{handles_there, sized}
 use Rattle.marshal.specs.Write.{capped, session_there, sessions_there, entries_length, total_size, fitted, judged}
+
+pub handle_width_lem : (b : Bool) → handle_width b ≤ 4
+handle_width_lem true = omega arith
+handle_width_lem false = omega arith
 
 -- what a writer refuses with in common with readers is told as readers tell it
 pub told : {A : Type 0} {w : WriteError} {e : TpmError} {why : Why} → w ≡ Common e → numbered e ≡ why → ◌≡◌ {A = Said A} (refuses (writer_numbered w)) (refuses why)

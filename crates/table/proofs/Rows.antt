@@ -1,22 +1,31 @@
--- The search of a dispatch table, over any rows: of rows that rise strictly by code the row at a place is the row of its code; a code that
+-- The search of a dispatch table, over any rows: where the parts have the row of a place; of rows that rise strictly by code the row at a place is the row of its code; a code that
 -- no row has is refused; and what is known of the row that a search finds.
 -- Assumes nothing.
 use mathlib.Core.Path.{◌≡◌, refl, sym, ◌∙◌, ap}
 use mathlib.Core.Bool.{Bool, true, false, ◌&&◌, ◌||◌, cond, and-eq-true_iff}
 use mathlib.Core.List.{List, [], ◌∷◌}
 use mathlib.Core.Logic.{⊎_elim}
-use Prim.Native.Nat.{ℕ, zero, suc, ◌≤◌, ◌<◌}
-use native.Mathlib.Nat.{le_of_suc-le-suc, not-suc-le-zero}
+use Prim.Native.Nat.{ℕ, zero, suc, ◌+◌, ◌*◌, ◌/◌, ◌%◌, ◌≤◌, ◌<◌}
+use native.Mathlib.Nat.{le_of_suc-le-suc, not-suc-le-zero, le_refl}
 use native.Mathlib.Omega.{arith}
 use borrow.Author.Tests.{ltb-true, leb-true, eq-eqb, ne_eqb}
 use lib.Dec.{eqb, leb}
-use lib.ListN.{length, get_or}
+use lib.ListN.{length, get_or, drop}
+use lib.Seq.{get_or-take, get_or-drop}
 use Rattle.std.proofs.lemmas.Bool.{or_parts}
 use Rattle.base.specs.Members.{is_in}
 use Rattle.base.specs.Said.{no_area, Said, gives, refuses, given}
 use Rattle.base.proofs.Checks.{gives≢refuses, gives_injective, cond_gives}
 use Rattle.table.specs.declared.row.Row.{Row}
-use Rattle.table.specs.Table.{row_for, codes, below_first, rising, few, IsTable, none, code_at}
+use Rattle.table.specs.Table.{row_for, codes, below_first, rising, few, IsTable, part, none, code_at}
+
+-- the row at a place stands in the part of its four
+pub in_part : (rows : List Row) (k place : ℕ) → place / 4 ≡ k → get_or (part rows k) (place % 4) none ≡ get_or rows place none
+in_part rows k place e =
+    let here : 4 * k + place % 4 ≡ place = omega arith in
+    get_or-take 4 (drop (4 * k) rows) (place % 4) none (omega arith)
+    ∙ get_or-drop (4 * k) rows (place % 4) none
+    ∙ ap (λ (i : ℕ). get_or rows i none) here
 
 -- rising rows: the first row's code is below the next one's, and the others rise
 next_and_rest : (r : Row) (rows : List Row) → rising (r ∷ rows) ≡ true → (below_first r.code rows ≡ true) × (rising rows ≡ true)
@@ -35,6 +44,17 @@ below_each code (r ∷ rows) b e (suc j) h =
 -- the first of rising rows is below each of the others
 above_first : (r : Row) (rows : List Row) → rising (r ∷ rows) ≡ true → (j : ℕ) → j < length rows → r.code < code_at rows j
 above_first r rows e = below_each r.code rows (next_and_rest r rows e).0 (next_and_rest r rows e).1
+
+-- no code is above a later one
+pub codes_ordered : (rows : List Row) → rising rows ≡ true → (i j : ℕ) → i ≤ j → j < length rows → code_at rows i ≤ code_at rows j
+codes_ordered [] e i j h k = absurd (not-suc-le-zero k)
+codes_ordered (r ∷ rows) e zero zero h k = le_refl r.code
+codes_ordered (r ∷ rows) e zero (suc j) h k =
+    let above = above_first r rows e j (le_of_suc-le-suc k) in
+    omega arith
+codes_ordered (r ∷ rows) e (suc i) zero h k = absurd (not-suc-le-zero h)
+codes_ordered (r ∷ rows) e (suc i) (suc j) h k =
+    codes_ordered rows (next_and_rest r rows e).1 i j (le_of_suc-le-suc h) (le_of_suc-le-suc k)
 
 -- the row at a place is the row of its code
 pub row_at : (rows : List Row) → rising rows ≡ true → (i : ℕ) → i < length rows → gives (get_or rows i none) ≡ row_for rows (code_at rows i)

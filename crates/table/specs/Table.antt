@@ -1,7 +1,7 @@
 -- A dispatch table, over any rows (document 01, "Layout", "Order of checks"). A row is the struct of src/row.rt: a code, its
 -- handles and its response handles.
 -- Assumes nothing: these are definitions.
-use Rattle.std.specs.Prelude.{ℕ, Bool, true, false, not, ◌&&◌, cond, List, [], ◌∷◌, ◌≡◌, eqb, leb, ltb, get_or}
+use Rattle.std.specs.Prelude.{ℕ, ◌*◌, Bool, true, false, not, ◌&&◌, cond, List, [], ◌∷◌, ◌≡◌, eqb, leb, ltb, get_or, take, drop}
 use Rattle.base.specs.Members.{is_in}
 use Rattle.base.specs.Said.{no_area, Said, gives, refuses}
 use Rattle.table.specs.declared.row.Row.{Row}
@@ -65,7 +65,10 @@ apart rows others = those (λ code. not (same_counts (row_for rows code) (row_fo
 
 -- ---- rows by their places
 
--- what stands at a place past the last one
+-- in parts of four, counted from 0; and what stands at a place past the last one
+abbrev pub part : List Row → ℕ → List Row
+part rows k = take 4 (drop (4 * k) rows)
+
 abbrev pub none : Row
 none = row 0 0 0
 

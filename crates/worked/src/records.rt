@@ -5,6 +5,7 @@ use crate::answer::{Answer, Report};
 use crate::call::Call;
 use crate::rules::number;
 use base::code::TpmSt;
+use base::field::write_bytes;
 use base::part::part;
 use capi::{command, response};
 use frame::header::RSP_COMMAND;
@@ -125,7 +126,7 @@ pub(crate) fn response_again<'a>(call: Call, bytes: &'a mut [u8]) -> Option<Answ
 // The bytes are filled; what they were is kept in the copy.
 fn filled<'a>(bytes: &mut [u8], copy: &'a mut [u8]) -> Option<&'a [u8]> {
     let kept = copy.get_mut(..bytes.len())?;
-    kept.copy_from_slice(bytes);
+    let _ = write_bytes(kept, 0, bytes);
     bytes.fill(255);
     Some(kept)
 }

@@ -1,5 +1,5 @@
 // The numbers and bytes that the words of a line spell, `-` for none.
-ghost use Rattle.std.specs.Prelude.{◌<◌, IfSome};
+ghost use Rattle.std.specs.Prelude.{◌<◌, ◌≤◌, length, IfSome};
 
 // The number that decimal digits spell, where it fits 64 bits.
 pub(crate) fn decimal(word: &[u8]) -> Option<usize> {
@@ -14,7 +14,9 @@ pub(crate) fn decimal(word: &[u8]) -> Option<usize> {
 }
 
 // The bytes that hex digits spell, put at the start of the room, where they have room there.
-pub(crate) fn unhex<'a>(word: &[u8], room: &'a mut [u8]) -> Option<&'a mut [u8]> {
+pub(crate) fn unhex<'a>(word: &[u8], room: &'a mut [u8]) -> Option<&'a mut [u8]>
+    ensures { IfSome result (λ bytes. length bytes.now ≤ length room.old) }
+{
     if let b"-" = word {
         return Some(&mut room[..0]);
     }

@@ -1,14 +1,15 @@
 -- `buffer::fixed::TpmBuffer::marshal_lent` meets its contract: the lent room alone decides once the size was judged, and two copies wrote the TPM2B.
 -- Assumes nothing.
 use mathlib.Core.Path.{◌≡◌, refl, ◌∙◌, ap}
-use mathlib.Core.List.{List, ◌++◌}
+use mathlib.Core.List.{List}
 use Prim.Native.Nat.{ℕ, ◌+◌, ◌-◌}
-use borrow.Rule.Slice.PartMut.{put_mid}
 use native.Mathlib.Omega.{arith}
-use lib.ListN.{length, take, drop}
+use lib.ListN.{length, take}
 use Rattle.std.proofs.Common.{rules}
+use Rattle.base.specs.Field.{laid}
 use Rattle.base.specs.Tpm2b.{tpm2b}
 use Rattle.base.proofs.Bytes.{two_big_endian}
+use Rattle.base.proofs.Widths.{written}
 use Rattle.buffer.proofs.Rooms.{judged_fits, length_held, length_wire, emit_no_room, emitted_gives, wire_over}
 use Rattle.buffer.proofs.fixed.TpmBuffer.marshal_lent.Goals as goal
 
@@ -31,11 +32,15 @@ returns g c =
     let fits = judged_fits g.row.N a.size c.in_ok-held.ensures in
     let long = length_wire a.size d (omega arith) in
     let done = emitted_gives g.row.N a.size (tpm2b t) a.lent.now fits.1 (omega arith) in
-    let all : 2 + c.in_ok-held.held - 2 ≡ a.size = let same = fits.0 in omega arith in
-    let size = c.copy_from_slice.ensures.after ∙ c.to_be_bytes.ensures ∙ two_big_endian a.size in
-    let held = c.copy_from_slice-2.ensures.after ∙ ap (λ (n : ℕ). take n d) fits.0 in
+    let size = written 0 _ a.lent.now c.in_ok-write_bytes.ensures.answer c.write_bytes.ensures.bytes in
+    let held = written 2 _ _ c.in_ok-write_bytes-2.ensures.answer c.write_bytes-2.ensures.bytes in
+    let big = c.to_be_bytes.ensures ∙ two_big_endian a.size in
     record {
       result_value = rw (fits.0, done) refl;
       lent_after =
-          rw done ((λ i. put_mid 2 (all i) (size i ++ drop 2 a.lent.now) (held i)) ∙ wire_over a.size t a.lent.now (length_held a.size d (omega arith)));
+          rw done
+          (held
+          ∙ (λ i. laid 2 (take (fits.0 i) d) (size i))
+          ∙ ap (λ (u : List ℕ). laid 2 t (laid 0 u a.lent.now)) big
+          ∙ wire_over a.size t a.lent.now (length_held a.size d (omega arith)));
     }
